@@ -1,0 +1,28 @@
+-- what the values of this crate hold
+use mathlib.Core.Bool.{Bool, cond, _&&_}
+use mathlib.Core.List.{List, [], _∷_, map}
+use Prim.Native.Nat.{ℕ}
+use lib.ListN.{take}
+use denote.Ref.{now}
+use Rattle.std.specs.declared.result.Result.{Result}
+use Rattle.std.specs.declared.result.Result.the-variants.{Ok, Err}
+use Rattle.fields.specs.Text.{Bytes, parted}
+use Rattle.fields.specs.declared.name.Name.{Name}
+use Rattle.fields.specs.declared.pieces.Pieces.{Pieces}
+use Rattle.fields.specs.declared.line.Line.{Line}
+
+abbrev pub name-text : Name → Bytes
+name-text n = take (n .len) (n .bytes)
+
+-- the pieces that are still to come
+abbrev pub pieces-left : Pieces → List Bytes
+pieces-left p = cond (p .more) (parted (p .separator) (now (p .rest))) []
+
+-- the first fields of a line, as many as any letter asks for
+abbrev pub line-fields : Line → List Bytes
+line-fields l = take (l .count) (map now (l .at))
+
+-- an answer whose value is read by f
+abbrev pub answered : {A B E : Type 0} → (A → B) → Result A E → Result B E
+answered f (Ok x) = Ok (f x)
+answered f (Err e) = Err e

@@ -1,0 +1,5 @@
+pub mod Text
+pub mod Heads
+pub mod Form
+pub mod Read
+pub mod Held
