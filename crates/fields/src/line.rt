@@ -1,7 +1,7 @@
 ghost use mathlib.Core.Path.{_≡_};
 ghost use mathlib.Core.Bool.{cond};
-ghost use Prim.Native.Nat.{_≤_};
-ghost use lib.ListN.{length, take};
+ghost use mathlib.Core.List.{[]};
+ghost use lib.ListN.{length, getD, take};
 ghost use Rattle.std.specs.declared.option.Option.the-variants.{Some, None};
 ghost use Rattle.fields.specs.Text.{fields, at, items, numberForm, value};
 ghost use Rattle.fields.specs.Read.{nameIn, numberIn, markIn, listIn, shortListIn};
@@ -55,11 +55,17 @@ impl<'a> Line<'a> {
     pub fn field(&self, k: u8) -> &'a [u8]
         ensures { λ r. ⌜ now r ≡ at (line-fields (now (self .entry))) k ⌝ }
     {
-        let i = (k as usize).saturating_sub(1);
-        if i >= 5 || i >= self.count {
+        self.after((k as usize).saturating_sub(1))
+    }
+
+    // The field with so many before it; empty where there is none.
+    fn after(&self, before: usize) -> &'a [u8]
+        ensures { λ r. ⌜ now r ≡ getD (line-fields (now (self .entry))) before [] ⌝ }
+    {
+        if before >= 5 || before >= self.count {
             return &[];
         }
-        self.at[i]
+        self.at[before]
     }
 
     pub fn name(&self, k: u8) -> Result<Name, FieldFault>

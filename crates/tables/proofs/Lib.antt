@@ -1,0 +1,5 @@
+pub mod Places
+mod Ranks
+mod Fews
+mod Indices
+mod Rungs

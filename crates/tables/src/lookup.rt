@@ -1,0 +1,35 @@
+ghost use mathlib.Core.Path.{_≡_};
+ghost use mathlib.Core.List.{map};
+ghost use Rattle.reading.specs.Tables.{indexOf, orTask};
+ghost use Rattle.tables.specs.Held.{action-name, task-name};
+use crate::entries::Action;
+use crate::entries::ActionNamed;
+use crate::entries::Named;
+use crate::entries::Task;
+use crate::entries::TaskNamed;
+use theory::Subtask;
+
+// The number of the first that has this name.
+pub fn find<T: Named>(items: &[T], name: &[u8]) -> Option<usize>
+    ensures { λ r. ⌜ r ≡ indexOf (now (name .entry)) (map text (now (items .entry))) ⌝ }
+{
+    for (i, item) in items.iter().enumerate() {
+        if item.name().as_bytes() == name {
+            return Some(i);
+        }
+    }
+    None
+}
+
+// The action or the task of this name.
+pub fn find_symbol(actions: &[Action], tasks: &[Task], name: &[u8]) -> Option<Subtask>
+    ensures { λ r. ⌜ r ≡ orTask (indexOf (now (name .entry)) (map action-name (now (actions .entry)))) (indexOf (now (name .entry)) (map task-name (now (tasks .entry)))) ⌝ }
+{
+    if let Some(a) = find(actions, name) {
+        return Some(Subtask::Primitive(a));
+    }
+    match find(tasks, name) {
+        Some(t) => Some(Subtask::Compound(t)),
+        None => None,
+    }
+}
