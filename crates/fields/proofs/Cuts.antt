@@ -69,20 +69,22 @@ module _ (s : ℕ) where
   pub count-yes : (xs : Bytes) (i : ℕ) → i < length xs → getD xs i 0 ≡ s → length (parted s (drop i xs)) ≡ suc (length (parted s (drop (i + 1) xs)))
   count-yes xs i h e =
       at-drop-more (λ (l : Bytes). length (parted s l)) xs i 0 h
-        ∙ ap (λ (t : Bool). length (cond t ([] ∷ parted s (drop (i + 1) xs)) (consFirst (getD xs i 0) (parted s (drop (i + 1) xs))))) (eq-eqb (getD xs i 0) s e)
+      ∙ ap (λ (t : Bool). length (cond t ([] ∷ parted s (drop (i + 1) xs)) (consFirst (getD xs i 0) (parted s (drop (i + 1) xs))))) (eq-eqb (getD xs i 0) s e)
 
   pub count-no : (xs : Bytes) (i : ℕ) → i < length xs → (getD xs i 0 ≡ s → ⊥) → length (parted s (drop i xs)) ≡ length (parted s (drop (i + 1) xs))
   count-no xs i h e =
       at-drop-more (λ (l : Bytes). length (parted s l)) xs i 0 h
-        ∙ ap (λ (t : Bool). length (cond t ([] ∷ parted s (drop (i + 1) xs)) (consFirst (getD xs i 0) (parted s (drop (i + 1) xs))))) (ne-eqb (getD xs i 0) s e)
-        ∙ first-len (getD xs i 0) (parted s (drop (i + 1) xs)) (parted-pos (drop (i + 1) xs))
+      ∙ ap (λ (t : Bool). length (cond t ([] ∷ parted s (drop (i + 1) xs)) (consFirst (getD xs i 0) (parted s (drop (i + 1) xs))))) (ne-eqb (getD xs i 0) s e)
+      ∙ first-len (getD xs i 0) (parted s (drop (i + 1) xs)) (parted-pos (drop (i + 1) xs))
 
   pub parted-len : (l : Bytes) → length (parted s l) ≤ suc (length l)
   parted-len [] = omega arith
   parted-len (b ∷ bs) =
       let h = parted-len bs in
-      elim (eqb b s) as (λ t. length (cond t ([] ∷ parted s bs) (consFirst b (parted s bs))) ≤ suc (suc (length bs))) [ true ↦ omega arith
-      | false ↦ omega (arith, first-len b (parted s bs) (parted-pos bs)) ]
+      elim (eqb b s) as (λ t. length (cond t ([] ∷ parted s bs) (consFirst b (parted s bs))) ≤ suc (suc (length bs))) [
+        | true ↦ omega arith
+        | false ↦ omega (arith, first-len b (parted s bs) (parted-pos bs))
+      ]
 
   joined-some : (f : Bytes) (gs : List Bytes) → 0 < length gs → joined s (f ∷ gs) ≡ f ++ s ∷ joined s gs
   joined-some f [] h = absurd (not-suc-le-zero h)
@@ -106,8 +108,9 @@ module _ (s : ℕ) where
   rejoins (b ∷ bs) =
       let h = rejoins bs in
       (elim (eqb b s) as (λ t. Back b bs t) [
-        true ↦ λ e. (joined-some [] (parted s bs) (parted-pos bs) ∙ ap (λ (z : Bytes). s ∷ z) (h .0) ∙ ap (λ (x : ℕ). x ∷ bs) (sym (eqb-true b s e)), (tt, h .1))
-      | false ↦ λ e. (joined-first b (parted s bs) ∙ ap (λ (z : Bytes). b ∷ z) (h .0), free-first b (parted s bs) (eqb-false b s e) (h .1)) ]) refl
+        | true ↦ λ e. (joined-some [] (parted s bs) (parted-pos bs) ∙ ap (λ (z : Bytes). s ∷ z) (h .0) ∙ ap (λ (x : ℕ). x ∷ bs) (sym (eqb-true b s e)), (tt, h .1))
+        | false ↦ λ e. (joined-first b (parted s bs) ∙ ap (λ (z : Bytes). b ∷ z) (h .0), free-first b (parted s bs) (eqb-false b s e) (h .1))
+      ]) refl
 
   pub parted-cut : (l : Bytes) → Cut s l (parted s l)
   parted-cut l = record { some = parted-pos l; joins = rejoins l .0; free = rejoins l .1 }

@@ -30,5 +30,5 @@ pub no-number : (b : Bytes) → all digit b ≡ false → None ≡ cond (numberF
 no-number b e = sym (cond-false _ _ _ (and-right _ _ e))
 
 pub is-number : (b : Bytes) (n : ℕ) → 0 < length b → length b ≤ 6 → not (eqb (getD b 0 0) 48 && ltb 1 (length b)) ≡ true → all digit b ≡ true → n ≡ value 0 b
-  → Some n ≡ cond (numberForm b) (Some (value 0 b)) None
+    → Some n ≡ cond (numberForm b) (Some (value 0 b)) None
 is-number b n h k z e v = ap Some v ∙ sym (cond-true _ _ _ (and-from _ _ (and-from _ _ (and-from _ _ (lt-ltb 0 (length b) h) (le-leb (length b) 6 k)) z) e))

@@ -1,7 +1,6 @@
 -- what the values of this crate hold
-use mathlib.Core.Bool.{Bool, cond, _&&_}
-use mathlib.Core.List.{List, [], _∷_, map}
-use Prim.Native.Nat.{ℕ}
+use mathlib.Core.Bool.{cond}
+use mathlib.Core.List.{List, [], map}
 use lib.ListN.{take}
 use denote.Ref.{now}
 use Rattle.std.specs.declared.result.Result.{Result}

@@ -35,7 +35,11 @@ impl<'a> Line<'a> {
             at[n] = piece;
             n += 1;
         }
-        Line { at, count: n + pieces.count(), len: bytes.len() }
+        Line {
+            at,
+            count: n + pieces.count(),
+            len: bytes.len(),
+        }
     }
 
     // How many fields the line has, however long it is.
@@ -73,7 +77,10 @@ impl<'a> Line<'a> {
     {
         match Name::new(self.field(k)) {
             Some(name) => Ok(name),
-            None => Err(FieldFault { cause: FieldCause::Form, field: k }),
+            None => Err(FieldFault {
+                cause: FieldCause::Form,
+                field: k,
+            }),
         }
     }
 
@@ -82,10 +89,16 @@ impl<'a> Line<'a> {
         ensures { λ r. ⌜ r ≡ numberIn (line-fields (now (self .entry))) k low high ⌝ }
     {
         let Some(n) = number(self.field(k)) else {
-            return Err(FieldFault { cause: FieldCause::Form, field: k });
+            return Err(FieldFault {
+                cause: FieldCause::Form,
+                field: k,
+            });
         };
         if n < low || n > high {
-            return Err(FieldFault { cause: FieldCause::Range, field: k });
+            return Err(FieldFault {
+                cause: FieldCause::Range,
+                field: k,
+            });
         }
         Ok(n)
     }
@@ -97,7 +110,10 @@ impl<'a> Line<'a> {
         match self.field(k) {
             [b'v'] => Ok(true),
             [b'n'] => Ok(false),
-            _ => Err(FieldFault { cause: FieldCause::Form, field: k }),
+            _ => Err(FieldFault {
+                cause: FieldCause::Form,
+                field: k,
+            }),
         }
     }
 
@@ -107,7 +123,10 @@ impl<'a> Line<'a> {
     {
         let names = names_of(self.field(k));
         if !names.all_names() {
-            return Err(FieldFault { cause: FieldCause::Form, field: k });
+            return Err(FieldFault {
+                cause: FieldCause::Form,
+                field: k,
+            });
         }
         Ok(names)
     }
@@ -118,7 +137,10 @@ impl<'a> Line<'a> {
     {
         let names = self.list(k)?;
         if names.count() > most {
-            return Err(FieldFault { cause: FieldCause::Range, field: k });
+            return Err(FieldFault {
+                cause: FieldCause::Range,
+                field: k,
+            });
         }
         Ok(names)
     }

@@ -1,5 +1,4 @@
 ghost use mathlib.Core.Path.{_≡_};
-ghost use mathlib.Core.Bool.{cond};
 ghost use mathlib.Core.List.{[], _∷_};
 ghost use Prim.Native.Nat.{_≤_};
 ghost use lib.ListN.{length};
@@ -22,13 +21,21 @@ impl<'a> Pieces<'a> {
     pub(crate) fn of(text: &'a [u8], separator: u8) -> Pieces<'a>
         ensures { λ r. ⌜ pieces-left r ≡ parted separator (now (text .entry)) ⌝ }
     {
-        Pieces { rest: text, separator, more: true }
+        Pieces {
+            rest: text,
+            separator,
+            more: true,
+        }
     }
 
     pub(crate) fn none() -> Pieces<'a>
         ensures { λ r. ⌜ pieces-left r ≡ [] ⌝ }
     {
-        Pieces { rest: &[], separator: 0, more: false }
+        Pieces {
+            rest: &[],
+            separator: 0,
+            more: false,
+        }
     }
 
     // The next piece, which is then no longer left.

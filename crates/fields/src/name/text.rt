@@ -1,5 +1,5 @@
 ghost use mathlib.Core.Path.{_≡_};
-ghost use mathlib.Core.Bool.{cond, true};
+ghost use mathlib.Core.Bool.{cond};
 ghost use Prim.Native.Nat.{_≤_};
 ghost use lib.ListN.{length, take};
 ghost use Rattle.std.specs.Options.{mapped};
@@ -19,7 +19,10 @@ impl Name {
             return None;
         }
         let bytes = padded(text);
-        Some(Name { bytes, len: text.len() })
+        Some(Name {
+            bytes,
+            len: text.len(),
+        })
     }
 
     pub fn as_bytes(&self) -> &[u8]

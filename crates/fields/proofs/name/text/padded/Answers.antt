@@ -10,9 +10,10 @@ use Rattle.fields.proofs.name.text.padded.Needs as need
 pub loop-i-again : need.loop-i-again
 loop-i-again c =
     let i : ℕ = c .loop-i .i in
-    let b : ℕ = getD (c .args .text .now) i 0 in
-    (take-more-set (c .loop-i .bytes) i b (omega (arith, c .loop-i .inv .1)) ∙ ap (λ (l : Bytes). l ++ b ∷ []) (c .loop-i .inv .0) ∙ sym (take-more (c .args .text .now) i 0 (omega arith)),
-     length-set (c .loop-i .bytes) i b ∙ c .loop-i .inv .1)
+    let b : ℕ = getD (c .args .text .now) i 0 in (
+      take-more-set (c .loop-i .bytes) i b (omega (arith, c .loop-i .inv .1)) ∙ ap (λ (l : Bytes). l ++ b ∷ []) (c .loop-i .inv .0) ∙ sym (take-more (c .args .text .now) i 0 (omega arith)),
+      length-set (c .loop-i .bytes) i b ∙ c .loop-i .inv .1,
+    )
 
 pub returns : need.returns
 returns c =

@@ -16,5 +16,6 @@ returns c =
     let n : ℕ = c .head-len-n .result in
     let m = ap (λ (b : Bool). cond b (parted s l) []) (c .if-not-self .left) in
     elim (c .if-n-text .came) [
-      then-n-text w ↦ m ∙ cut-more s l n (c .head-len-n .ensures .value) (w .if-n-text .taken) ∙ ap (λ (z : List Bytes). take (n - 0) l ∷ z) (sym (ap pieces-left (w .self-is) ∙ ap (λ (b : Bool). cond b (parted s (take (length l - (n + 1)) (drop (n + 1) l))) []) (c .if-not-self .left)))
-    | else-n-text w ↦ m ∙ cut-last s l n (c .head-len-n .ensures .value) (w .if-n-text .left) ∙ ap (λ (z : List Bytes). take (n - 0) l ∷ z) (sym (ap pieces-left (w .self-is))) ]
+      | then-n-text w ↦ m ∙ cut-more s l n (c .head-len-n .ensures .value) (w .if-n-text .taken) ∙ ap (λ (z : List Bytes). take (n - 0) l ∷ z) (sym (ap pieces-left (w .self-is) ∙ ap (λ (b : Bool). cond b (parted s (take (length l - (n + 1)) (drop (n + 1) l))) []) (c .if-not-self .left)))
+      | else-n-text w ↦ m ∙ cut-last s l n (c .head-len-n .ensures .value) (w .if-n-text .left) ∙ ap (λ (z : List Bytes). take (n - 0) l ∷ z) (sym (ap pieces-left (w .self-is)))
+    ]

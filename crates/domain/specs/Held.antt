@@ -1,0 +1,36 @@
+-- the reader that the code's reader stands for
+use mathlib.Core.Bool.{Bool}
+use Prim.Native.Nat.{ℕ}
+use Rattle.std.specs.declared.option.Option.{Option}
+use Rattle.std.specs.declared.option.Option.the-variants.{Some, None}
+use Rattle.reading.specs.Reading as plain
+use Rattle.reading.specs.Tables.{Tables}
+use Rattle.reading.specs.declared.faults.Fault.{Fault}
+use Rattle.reading.specs.declared.kinds.Section.{Section}
+use Rattle.reading.specs.declared.kinds.Section.the-variants.{Facts, Actions, Tasks as TaskSection, Methods, Closed}
+use Rattle.domain.specs.declared.domain.Domain.{Domain}
+use Rattle.domain.specs.declared.reader.Reader.{Reader}
+use Rattle.domain.specs.Closes.{meant}
+
+-- what a domain declares
+abbrev pub domain-tables : Domain → Tables
+domain-tables d = meant (d .tables)
+
+abbrev pub standing : Option Fault → Section → Tables → ℕ → plain.Reader
+standing (Some f) s t n = plain.refused f
+standing None s t n = plain.reading s t n
+
+abbrev pub stands : Reader → plain.Reader
+stands r = standing (r .refused) (r .section) (domain-tables (r .domain)) (r .lines)
+
+abbrev pub closedAt : Section → Tables → Option Tables
+closedAt Facts t = None
+closedAt Actions t = None
+closedAt TaskSection t = None
+closedAt Methods t = None
+closedAt Closed t = Some t
+
+-- the tables of a closed domain
+abbrev pub closedTables : plain.Reader → Option Tables
+closedTables (plain.reading s t n) = closedAt s t
+closedTables (plain.refused f) = None

@@ -1,0 +1,5 @@
+pub mod Closes
+pub mod Held
+pub mod Took
+pub mod Placed
+pub mod Steps

@@ -1,0 +1,7 @@
+mod domain;
+mod lines;
+mod reader;
+mod tables;
+
+pub use domain::Domain;
+pub use reader::Reader;
