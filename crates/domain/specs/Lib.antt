@@ -1,5 +1,4 @@
 pub mod Closes
 pub mod Held
 pub mod Took
-pub mod Placed
 pub mod Steps

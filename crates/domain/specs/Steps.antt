@@ -39,11 +39,15 @@ countIn c l = cond (eqb (l .count) (plain.fieldCount c) && leb (l .len) 255) (Ok
 abbrev pub refusing : Reader → DomainFault → plain.Reader
 refusing r f = plain.faulted (r .section) (domain-tables (r .domain)) (r .lines) f
 
+-- what a line says where this reader stands
+abbrev pub lineIn : Reader → Bytes → Check (Section × Tables)
+lineIn r l = plain.line (r .section) (domain-tables (r .domain)) l
+
 -- the count of lines and the first fault have not changed
 abbrev pub Beside : Reader → Reader → Type 0
 Beside old new = (new .lines ≡ old .lines) × (new .refused ≡ old .refused)
 
 -- a line's answer, the group and the tables after it are those of its definition; a refusal leaves both as they were
 abbrev pub Taken : Result (Unit {0}) DomainFault → Reader → Reader → Check (Section × Tables) → Type 0
-Taken (Ok x) old new c = (c ≡ Ok (new .section, domain-tables (new .domain))) × (new .lines ≡ old .lines) × (new .refused ≡ old .refused)
+Taken (Ok x) old new c = (c ≡ Ok (new .section, domain-tables (new .domain))) × Beside old new
 Taken (Err e) old new c = (c ≡ Err e) × (new .section ≡ old .section) × (domain-tables (new .domain) ≡ domain-tables (old .domain)) × Beside old new

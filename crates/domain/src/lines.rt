@@ -2,14 +2,13 @@ ghost use mathlib.Core.Path.{_≡_};
 ghost use mathlib.Core.Bool.{true};
 ghost use Prim.Native.Nat.{_<_};
 ghost use Rattle.std.specs.Vec.{made};
-ghost use Rattle.fields.specs.Held.{name-text, line-fields, answered};
+ghost use Rattle.fields.specs.Held.{name-text, answered};
 ghost use Rattle.theory.specs.declared.Constraint.the-variants.{Before, After};
 ghost use Rattle.reading.specs.Lines as plain;
-ghost use Rattle.reading.specs.Tables.{empty, factOf, taskOf, symbolOf, addConstraint};
+ghost use Rattle.reading.specs.Tables.{empty, symbolOf};
 ghost use Rattle.tables.specs.Held.{few-items};
 ghost use Rattle.domain.specs.Closes.{meant, closes};
-ghost use Rattle.domain.specs.Took.{Took};
-ghost use Rattle.domain.specs.Placed.{placed};
+ghost use Rattle.domain.specs.Took.{Took, TookLine, newFact, newSymbol, oldFact, oldTask, factSet, subtaskList, arity};
 use crate::tables::Tables;
 use fields::Line;
 use fields::Name;
@@ -45,7 +44,7 @@ impl Tables {
 
     // A name that no fact has yet.
     fn new_fact(&self, line: &Line, k: u8) -> Result<Name, DomainFault>
-        ensures { λ r. ⌜ answered name-text r ≡ plain.newName (factOf (meant (now (self .entry)))) (line-fields (now (line .entry))) k ⌝ }
+        ensures { λ r. ⌜ answered name-text r ≡ newFact (now (self .entry)) (now (line .entry)) k ⌝ }
     {
         let name = line.name(k)?;
         if find(self.facts.as_slice(), name.as_bytes()).is_some() {
@@ -56,7 +55,7 @@ impl Tables {
 
     // A name that no action and no task has yet.
     fn new_symbol(&self, line: &Line, k: u8) -> Result<Name, DomainFault>
-        ensures { λ r. ⌜ answered name-text r ≡ plain.newName (symbolOf (meant (now (self .entry)))) (line-fields (now (line .entry))) k ⌝ }
+        ensures { λ r. ⌜ answered name-text r ≡ newSymbol (now (self .entry)) (now (line .entry)) k ⌝ }
     {
         let name = line.name(k)?;
         if self.symbol(name.as_bytes()).is_some() {
@@ -74,7 +73,7 @@ impl Tables {
 
     // The fact that a field names.
     fn old_fact(&self, line: &Line, k: u8) -> Result<usize, DomainFault>
-        ensures { λ r. ⌜ r ≡ plain.oldName (factOf (meant (now (self .entry)))) (line-fields (now (line .entry))) k ⌝ }
+        ensures { λ r. ⌜ r ≡ oldFact (now (self .entry)) (now (line .entry)) k ⌝ }
     {
         let name = line.name(k)?;
         match find(self.facts.as_slice(), name.as_bytes()) {
@@ -85,7 +84,7 @@ impl Tables {
 
     // The task that a field names.
     fn old_task(&self, line: &Line, k: u8) -> Result<usize, DomainFault>
-        ensures { λ r. ⌜ r ≡ plain.oldName (taskOf (meant (now (self .entry)))) (line-fields (now (line .entry))) k ⌝ }
+        ensures { λ r. ⌜ r ≡ oldTask (now (self .entry)) (now (line .entry)) k ⌝ }
     {
         let name = line.name(k)?;
         match find(self.tasks.as_slice(), name.as_bytes()) {
@@ -97,7 +96,7 @@ impl Tables {
     // The set of the facts that a field lists.
     fn fact_set(&self, line: &Line, k: u8) -> Result<u64, DomainFault>
         requires { ⌜ closes (now self) ≡ true ⌝ }
-        ensures { λ r. ⌜ r ≡ plain.factSet (meant (now (self .entry))) (line-fields (now (line .entry))) k ⌝ }
+        ensures { λ r. ⌜ r ≡ factSet (now (self .entry)) (now (line .entry)) k ⌝ }
     {
         let mut names = line.list(k)?;
         let mut set = 0;
@@ -112,7 +111,7 @@ impl Tables {
 
     // The subtasks that a field lists.
     fn subtask_list(&self, line: &Line, k: u8) -> Result<Few<Subtask>, DomainFault>
-        ensures { λ r. ⌜ answered few-items r ≡ plain.subtaskList (meant (now (self .entry))) (line-fields (now (line .entry))) k ⌝ }
+        ensures { λ r. ⌜ answered few-items r ≡ subtaskList (now (self .entry)) (now (line .entry)) k ⌝ }
     {
         let mut names = line.short_list(k, 4)?;
         let mut subtasks = Few::Zero;
@@ -129,7 +128,7 @@ impl Tables {
 
     pub fn fact_line(&mut self, line: &Line) -> Result<(), DomainFault>
         requires { ⌜ closes (now self) ≡ true ⌝ }
-        ensures { λ r. ⌜ Took r (now (self .entry)) (now (self .exit)) (plain.factLine (meant (now (self .entry))) (line-fields (now (line .entry)))) ⌝ }
+        ensures { λ r. ⌜ TookLine r (now (self .entry)) (now (self .exit)) plain.factLine (now (line .entry)) ⌝ }
     {
         let name = self.new_fact(line, 2)?;
         if self.facts.len() >= 64 {
@@ -141,7 +140,7 @@ impl Tables {
 
     pub fn action_line(&mut self, line: &Line) -> Result<(), DomainFault>
         requires { ⌜ closes (now self) ≡ true ⌝ }
-        ensures { λ r. ⌜ Took r (now (self .entry)) (now (self .exit)) (plain.actionLine (meant (now (self .entry))) (line-fields (now (line .entry)))) ⌝ }
+        ensures { λ r. ⌜ TookLine r (now (self .entry)) (now (self .exit)) plain.actionLine (now (line .entry)) ⌝ }
     {
         let name = self.new_symbol(line, 2)?;
         let needs = self.fact_set(line, 3)?;
@@ -159,7 +158,7 @@ impl Tables {
 
     pub fn task_line(&mut self, line: &Line) -> Result<(), DomainFault>
         requires { ⌜ closes (now self) ≡ true ⌝ }
-        ensures { λ r. ⌜ Took r (now (self .entry)) (now (self .exit)) (plain.taskLine (meant (now (self .entry))) (line-fields (now (line .entry)))) ⌝ }
+        ensures { λ r. ⌜ TookLine r (now (self .entry)) (now (self .exit)) plain.taskLine (now (line .entry)) ⌝ }
     {
         let name = self.new_symbol(line, 2)?;
         let level = line.number(3, 0, 7)?;
@@ -173,7 +172,7 @@ impl Tables {
 
     pub fn method_line(&mut self, line: &Line) -> Result<(), DomainFault>
         requires { ⌜ closes (now self) ≡ true ⌝ }
-        ensures { λ r. ⌜ Took r (now (self .entry)) (now (self .exit)) (plain.methodLine (meant (now (self .entry))) (line-fields (now (line .entry)))) ⌝ }
+        ensures { λ r. ⌜ TookLine r (now (self .entry)) (now (self .exit)) plain.methodLine (now (line .entry)) ⌝ }
     {
         let task = self.old_task(line, 2)?;
         let price = line.number(3, 0, 1000)?;
@@ -195,7 +194,7 @@ impl Tables {
     // How many subtasks the last method has.
     fn arity(&self) -> u32
         requires { ⌜ closes (now self) ≡ true ⌝ }
-        ensures { λ r. ⌜ r ≡ plain.arity (meant (now (self .entry))) ⌝ }
+        ensures { λ r. ⌜ r ≡ arity (now (self .entry)) ⌝ }
     {
         match self.methods.last() {
             Some(m) => m.subtasks.as_slice().len() as u32,
@@ -206,7 +205,7 @@ impl Tables {
     // The last method takes one constraint more.
     fn constrain(&mut self, c: Constraint) -> Result<(), DomainFault>
         requires { ⌜ closes (now self) ≡ true ⌝ }
-        ensures { λ r. ⌜ Took r (now (self .entry)) (now (self .exit)) (placed (meant (now (self .entry))) c) ⌝ }
+        ensures { λ r. ⌜ Took r (now (self .entry)) (now (self .exit)) (plain.constrain (meant (now (self .entry))) c) ⌝ }
     {
         let Some(method) = self.methods.last_mut() else {
             return Ok(());
@@ -220,7 +219,7 @@ impl Tables {
 
     pub fn before_line(&mut self, line: &Line) -> Result<(), DomainFault>
         requires { ⌜ closes (now self) ≡ true ⌝ }
-        ensures { λ r. ⌜ Took r (now (self .entry)) (now (self .exit)) (plain.positionLine Before (meant (now (self .entry))) (line-fields (now (line .entry)))) ⌝ }
+        ensures { λ r. ⌜ TookLine r (now (self .entry)) (now (self .exit)) (plain.positionLine Before) (now (line .entry)) ⌝ }
     {
         let position = line.number(2, 0, self.arity())? as usize;
         let fact = self.old_fact(line, 3)?;
@@ -229,7 +228,7 @@ impl Tables {
 
     pub fn after_line(&mut self, line: &Line) -> Result<(), DomainFault>
         requires { ⌜ closes (now self) ≡ true ⌝ }
-        ensures { λ r. ⌜ Took r (now (self .entry)) (now (self .exit)) (plain.positionLine After (meant (now (self .entry))) (line-fields (now (line .entry)))) ⌝ }
+        ensures { λ r. ⌜ TookLine r (now (self .entry)) (now (self .exit)) (plain.positionLine After) (now (line .entry)) ⌝ }
     {
         let position = line.number(2, 0, self.arity())? as usize;
         let fact = self.old_fact(line, 3)?;
@@ -238,7 +237,7 @@ impl Tables {
 
     pub fn between_line(&mut self, line: &Line) -> Result<(), DomainFault>
         requires { ⌜ closes (now self) ≡ true ⌝ }
-        ensures { λ r. ⌜ Took r (now (self .entry)) (now (self .exit)) (plain.betweenLine (meant (now (self .entry))) (line-fields (now (line .entry)))) ⌝ }
+        ensures { λ r. ⌜ TookLine r (now (self .entry)) (now (self .exit)) plain.betweenLine (now (line .entry)) ⌝ }
     {
         let k = self.arity();
         let from = line.number(2, 1, k)?;

@@ -3,8 +3,8 @@ ghost use Rattle.std.specs.Options.{mapped};
 ghost use Rattle.std.specs.Vec.{made};
 ghost use Rattle.std.specs.declared.option.Option.the-variants.{None};
 ghost use Rattle.reading.specs.Reading as plain;
-ghost use Rattle.domain.specs.Held.{domain-tables, stands, closedTables};
-ghost use Rattle.domain.specs.Steps.{Taken, told, sectionAfter, kindIn, countIn, refusing};
+ghost use Rattle.domain.specs.Held.{stands, closedTables};
+ghost use Rattle.domain.specs.Steps.{Taken, lineIn, told, sectionAfter, kindIn, countIn, refusing};
 use crate::domain::Domain;
 use fields::Line;
 use fields::LineFault;
@@ -71,7 +71,7 @@ impl Reader {
 
     // Takes a line where none was refused.
     fn take(&mut self, bytes: &[u8]) -> Result<(), DomainFault>
-        ensures { λ r. ⌜ Taken r (now (self .entry)) (now (self .exit)) (plain.line (now (self .entry) .section) (domain-tables (now (self .entry) .domain)) (now (bytes .entry))) ⌝ }
+        ensures { λ r. ⌜ Taken r (now (self .entry)) (now (self .exit)) (lineIn (now (self .entry)) (now (bytes .entry))) ⌝ }
     {
         let line = Line::cut(bytes);
         let kind = kind_of(line.field(1))?;

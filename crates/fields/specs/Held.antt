@@ -1,8 +1,11 @@
 -- what the values of this crate hold
 use mathlib.Core.Bool.{cond}
-use mathlib.Core.List.{List, [], map}
+use mathlib.Core.List.{List, [], _∷_, map}
+use mathlib.Core.Path.{_≡_}
 use lib.ListN.{take}
-use denote.Ref.{now}
+use denote.Ref.{RefT, now}
+use Rattle.std.specs.declared.option.Option.{Option}
+use Rattle.std.specs.declared.option.Option.the-variants.{Some, None}
 use Rattle.std.specs.declared.result.Result.{Result}
 use Rattle.std.specs.declared.result.Result.the-variants.{Ok, Err}
 use Rattle.fields.specs.Text.{Bytes, parted}
@@ -16,6 +19,11 @@ name-text n = take (n .len) (n .bytes)
 -- the pieces that are still to come
 abbrev pub pieces-left : Pieces → List Bytes
 pieces-left p = cond (p .more) (parted (p .separator) (now (p .rest))) []
+
+-- a piece was taken from the left, where any was left
+abbrev pub Gave : Option (RefT Bytes) → Pieces → Pieces → Type 0
+Gave None old new = (pieces-left old ≡ []) × (pieces-left new ≡ [])
+Gave (Some f) old new = pieces-left old ≡ now f ∷ pieces-left new
 
 -- the first fields of a line, as many as any letter asks for
 abbrev pub line-fields : Line → List Bytes

@@ -1,11 +1,10 @@
 ghost use mathlib.Core.Path.{_≡_};
-ghost use mathlib.Core.List.{[], _∷_};
+ghost use mathlib.Core.List.{[]};
 ghost use Prim.Native.Nat.{_≤_};
 ghost use lib.ListN.{length};
-ghost use Rattle.std.specs.Options.{Cases};
 ghost use Rattle.theory.specs.Lists.{all};
 ghost use Rattle.fields.specs.Text.{parted, nameForm};
-ghost use Rattle.fields.specs.Held.{pieces-left};
+ghost use Rattle.fields.specs.Held.{Gave, pieces-left};
 ghost use Rattle.fields.specs.Heads.{headLen};
 use crate::name::text::is_name;
 
@@ -40,7 +39,7 @@ impl<'a> Pieces<'a> {
 
     // The next piece, which is then no longer left.
     pub fn next_piece(&mut self) -> Option<&'a [u8]>
-        ensures { λ r. ⌜ Cases r ((pieces-left (now (self .entry)) ≡ []) × (pieces-left (now (self .exit)) ≡ [])) (λ f. pieces-left (now (self .entry)) ≡ now f ∷ pieces-left (now (self .exit))) ⌝ }
+        ensures { λ r. ⌜ Gave r (now (self .entry)) (now (self .exit)) ⌝ }
     {
         if !self.more {
             return None;

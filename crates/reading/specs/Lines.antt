@@ -140,13 +140,18 @@ lastMethod t = lastOr noMethod (t .methods)
 abbrev pub arity : Tables → ℕ
 arity t = length (lastMethod t .subtasks)
 
+-- one constraint more, written into the record of that method, which has at most four
+abbrev pub constrain : Tables → Constraint → Check Tables
+constrain t c = do
+  room 4 (lastMethod t .constraints)
+  Ok (addConstraint t c)
+
 -- before and after: position 0 to k; fact
 abbrev pub positionLine : (ℕ → ℕ → Constraint) → Tables → List Bytes → Check Tables
 positionLine constraint t fs = do
   j ← field (numberIn fs 2 0 (arity t))
   f ← oldName (factOf t) fs 3
-  room 4 (lastMethod t .constraints)
-  Ok (addConstraint t (constraint j f))
+  constrain t (constraint j f)
 
 -- between: position i from 1 to k; fact; position j from i+1 to k
 abbrev pub betweenLine : Tables → List Bytes → Check Tables
@@ -154,5 +159,4 @@ betweenLine t fs = do
   i ← field (numberIn fs 2 1 (arity t))
   f ← oldName (factOf t) fs 3
   j ← field (numberIn fs 4 (suc i) (arity t))
-  room 4 (lastMethod t .constraints)
-  Ok (addConstraint t (Between i f j))
+  constrain t (Between i f j)

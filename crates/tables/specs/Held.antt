@@ -1,9 +1,15 @@
 -- what the entries of the tables mean
-use mathlib.Core.List.{List, [], map}
+use mathlib.Core.Bool.{cond}
+use mathlib.Core.List.{List, [], _∷_, _++_, map}
+use lib.Dec.{ltb}
+use lib.ListN.{length}
+use Rattle.std.specs.declared.option.Option.{Option}
+use Rattle.std.specs.declared.option.Option.the-variants.{Some, None}
 use Rattle.fields.specs.Held.{name-text}
 use Rattle.fields.specs.Text.{Bytes}
 use Rattle.theory.specs.Model as model
-use Rattle.reading.specs.Tables.{ActionEntry, TaskEntry, rank}
+use Rattle.theory.specs.declared.Subtask.{Subtask}
+use Rattle.reading.specs.Tables.{ActionEntry, TaskEntry, rank, indexOf, orTask}
 use Rattle.tables.specs.declared.few.Few.{Few}
 use Rattle.tables.specs.declared.few.Few.the-variants.{Zero, One, Two, Three, Four}
 use Rattle.tables.specs.declared.entries.Action.{Action}
@@ -16,6 +22,10 @@ few-items (One a) = a
 few-items (Two a) = a
 few-items (Three a) = a
 few-items (Four a) = a
+
+-- a list of at most four with one more at its end, where there is room
+abbrev pub grown : {T : Type 0} → List T → T → Option (List T)
+grown xs x = cond (ltb (length xs) 4) (Some (xs ++ x ∷ [])) None
 
 abbrev pub action-name : Action → Bytes
 action-name a = name-text (a .name)
@@ -34,3 +44,7 @@ method-entry m = record { owner = m .task; price = m .price; grade = m .grade; s
 
 abbrev pub task-ranks : List Task → List model.Task
 task-ranks ts = map rank (map task-entry ts)
+
+-- the action or the task of a name
+abbrev pub symbolIn : List Action → List Task → Bytes → Option Subtask
+symbolIn actions tasks n = orTask (indexOf n (map action-name actions)) (indexOf n (map task-name tasks))

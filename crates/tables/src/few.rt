@@ -1,11 +1,6 @@
 ghost use mathlib.Core.Path.{_≡_};
-ghost use mathlib.Core.Bool.{cond};
-ghost use mathlib.Core.List.{[], _∷_, _++_};
-ghost use lib.Dec.{ltb};
-ghost use lib.ListN.{length};
 ghost use Rattle.std.specs.Options.{mapped};
-ghost use Rattle.std.specs.declared.option.Option.the-variants.{Some, None};
-ghost use Rattle.tables.specs.Held.{few-items};
+ghost use Rattle.tables.specs.Held.{few-items, grown};
 
 // A list of at most four, by how many there are.
 #[derive(Clone, Copy)]
@@ -32,7 +27,7 @@ impl<T: Copy> Few<T> {
 
     // The list with x at its end, where there is room.
     pub fn with(self, x: T) -> Option<Few<T>>
-        ensures { λ r. ⌜ mapped few-items r ≡ cond (ltb (length (few-items self)) 4) (Some (few-items self ++ x ∷ [])) None ⌝ }
+        ensures { λ r. ⌜ mapped few-items r ≡ grown (few-items self) x ⌝ }
     {
         match self {
             Few::Zero => Some(Few::One([x])),

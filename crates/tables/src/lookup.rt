@@ -1,7 +1,7 @@
 ghost use mathlib.Core.Path.{_≡_};
 ghost use mathlib.Core.List.{map};
-ghost use Rattle.reading.specs.Tables.{indexOf, orTask};
-ghost use Rattle.tables.specs.Held.{action-name, task-name};
+ghost use Rattle.reading.specs.Tables.{indexOf};
+ghost use Rattle.tables.specs.Held.{symbolIn};
 use crate::entries::Action;
 use crate::entries::ActionNamed;
 use crate::entries::Named;
@@ -23,7 +23,7 @@ pub fn find<T: Named>(items: &[T], name: &[u8]) -> Option<usize>
 
 // The action or the task of this name.
 pub fn find_symbol(actions: &[Action], tasks: &[Task], name: &[u8]) -> Option<Subtask>
-    ensures { λ r. ⌜ r ≡ orTask (indexOf (now (name .entry)) (map action-name (now (actions .entry)))) (indexOf (now (name .entry)) (map task-name (now (tasks .entry)))) ⌝ }
+    ensures { λ r. ⌜ r ≡ symbolIn (now (actions .entry)) (now (tasks .entry)) (now (name .entry)) ⌝ }
 {
     if let Some(a) = find(actions, name) {
         return Some(Subtask::Primitive(a));

@@ -1,6 +1,6 @@
 ghost use mathlib.Core.Path.{_≡_};
 ghost use mathlib.Core.Bool.{_&&_};
-ghost use Rattle.theory.specs.Lists.{all, implies};
+ghost use Rattle.theory.specs.Lists.{all};
 ghost use Rattle.theory.specs.Model.{levelOf};
 ghost use Rattle.theory.specs.Rules as rules;
 ghost use Rattle.tables.specs.Held.{task-ranks};
@@ -49,7 +49,7 @@ fn below(tasks: &[Task], top: u32, subtask: Subtask) -> bool
 
 // Where all before and after it may vanish, a subtask that is a task stands below the top.
 fn rung(tasks: &[Task], top: u32, before: bool, subtask: Subtask, after: &[Subtask]) -> bool
-    ensures { λ r. ⌜ r ≡ implies (before && all (rules.vanishes (task-ranks (now (tasks .entry)))) (now (after .entry))) (rules.below (task-ranks (now (tasks .entry))) top subtask) ⌝ }
+    ensures { λ r. ⌜ r ≡ rules.rung (task-ranks (now (tasks .entry))) top before subtask (now (after .entry)) ⌝ }
 {
     if before && all_vanish(tasks, after) {
         return below(tasks, top, subtask);

@@ -22,10 +22,14 @@ module _ (tasks : List Task) where
   abbrev pub keepsMark : ℕ → List Subtask → Bool
   keepsMark owner subtasks = implies (all vanishes subtasks) (vanishes (Compound owner))
 
-  -- each subtask stands below the level where those before it, which the flag tells of, and those after it may all vanish
+  -- a subtask stands below the level where those before it, which the flag tells of, and those after it may all vanish
+  abbrev pub rung : ℕ → Bool → Subtask → List Subtask → Bool
+  rung level before s after = implies (before && all vanishes after) (below level s)
+
+  -- each of the subtasks does
   abbrev pub rungs : ℕ → Bool → List Subtask → Bool
   rungs level before [] = true
-  rungs level before (s ∷ rest) = implies (before && all vanishes rest) (below level s) && rungs level (before && vanishes s) rest
+  rungs level before (s ∷ rest) = rung level before s rest && rungs level (before && vanishes s) rest
 
   abbrev pub keepsLadder : ℕ → List Subtask → Bool
   keepsLadder owner subtasks = rungs (levelOf tasks owner) true subtasks

@@ -1,12 +1,12 @@
 ghost use mathlib.Core.Path.{_≡_};
 ghost use mathlib.Core.List.{map};
 ghost use Rattle.std.specs.Vec.{made};
-ghost use Rattle.fields.specs.Held.{name-text, line-fields};
+ghost use Rattle.fields.specs.Held.{name-text};
 ghost use Rattle.reading.specs.Reading.{declared};
 ghost use Rattle.reading.specs.Tables.{empty, factOf, symbolOf};
 ghost use Rattle.tables.specs.Held.{action-entry, task-entry, method-entry};
 ghost use Rattle.domain.specs.Held.{domain-tables};
-ghost use Rattle.domain.specs.Took.{Took};
+ghost use Rattle.domain.specs.Took.{TookLine};
 use crate::domain::Domain;
 use crate::tables::Tables;
 use fields::Line;
@@ -33,7 +33,7 @@ impl Domain {
 
     // Takes what a line of this kind declares.
     pub(crate) fn declare(&mut self, kind: Kind, line: &Line) -> Result<(), DomainFault>
-        ensures { λ r. ⌜ Took r (now (self .entry) .tables) (now (self .exit) .tables) (declared kind (domain-tables (now (self .entry))) (line-fields (now (line .entry)))) ⌝ }
+        ensures { λ r. ⌜ TookLine r (now (self .entry) .tables) (now (self .exit) .tables) (declared kind) (now (line .entry)) ⌝ }
     {
         match kind {
             Kind::Fact => self.tables.fact_line(line),

@@ -44,4 +44,4 @@ returns c =
     let h = head-ok l _ (cut .first) _ _ (cut .count) (cut .len) (c .in-Continue-kind .kind) (r .section) _ (c .field .ensures) (c .in-Continue-kind .ensures tt)
         (n .0) (c .in-Continue-counted .ensures tt) in
     let a = all-fields l _ (cut .first) _ _ (cut .count) (cut .len) (c .in-Continue-kind .kind) (c .in-Continue-counted .ensures tt) in
-    (line-declared (r .section) (domain-tables (r .domain)) l (c .in-Continue-kind .kind) (line-fields (c .cut-line .result)) h a _ _ (c .in-Continue-declare .ensures tt .0) (n .1), refl, refl)
+    (line-declared (r .section) (domain-tables (r .domain)) l (c .in-Continue-kind .kind) (line-fields (c .cut-line .result)) h a _ _ (c .in-Continue-declare .ensures tt .0) (n .1), (refl, refl))
