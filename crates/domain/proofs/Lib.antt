@@ -1,8 +1,2 @@
-pub mod Closing
-mod Rooms
-mod Takes
-mod Lasts
-mod Names
-mod Fields
 mod Heads
 mod Takings

@@ -9,12 +9,16 @@ use Rattle.reading.specs.declared.faults.Fault.{Fault}
 use Rattle.reading.specs.declared.kinds.Section.{Section}
 use Rattle.reading.specs.declared.kinds.Section.the-variants.{Facts, Actions, Tasks as TaskSection, Methods, Closed}
 use Rattle.domain.specs.declared.domain.Domain.{Domain}
+use Rattle.lines.specs.declared.tables.Tables as lines
 use Rattle.domain.specs.declared.reader.Reader.{Reader}
-use Rattle.domain.specs.Closes.{meant}
+use Rattle.lines.specs.Closes.{meant}
+
+abbrev pub tables-of : Domain → lines.Tables
+tables-of d = d .lawful .tables
 
 -- what a domain declares
 abbrev pub domain-tables : Domain → Tables
-domain-tables d = meant (d .tables)
+domain-tables d = meant (tables-of d)
 
 abbrev pub standing : Option Fault → Section → Tables → ℕ → plain.Reader
 standing (Some f) s t n = plain.refused f

@@ -1,4 +1,2 @@
-pub mod Closes
 pub mod Held
-pub mod Took
 pub mod Steps

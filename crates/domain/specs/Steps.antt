@@ -1,8 +1,6 @@
 -- the parts of one step of the reader
 use mathlib.Core.Path.{_≡_}
-use mathlib.Core.Bool.{cond, _&&_}
-use Prim.Native.Nat.{ℕ}
-use lib.Dec.{eqb, leb}
+use mathlib.Core.Bool.{cond}
 use denote.Ref.{RefT, now}
 use Rattle.std.specs.declared.option.Option.{Option}
 use Rattle.std.specs.declared.option.Option.the-variants.{Some, None}
@@ -10,9 +8,8 @@ use Rattle.std.specs.declared.result.Result.{Result}
 use Rattle.std.specs.declared.result.Result.the-variants.{Ok, Err}
 use Rattle.std.specs.Options.{okOr}
 use Rattle.fields.specs.Text.{Bytes}
-use Rattle.fields.specs.declared.line.Line.{Line}
 use Rattle.fields.specs.declared.faults.LineFault.{LineFault}
-use Rattle.fields.specs.declared.faults.LineFault.the-variants.{Letter, Count}
+use Rattle.fields.specs.declared.faults.LineFault.the-variants.{Letter}
 use Rattle.reading.specs.Lines.{Check}
 use Rattle.reading.specs.Reading as plain
 use Rattle.reading.specs.Tables.{Tables}
@@ -31,9 +28,6 @@ kindIn f = okOr (plain.kindOf f) Letter
 
 abbrev pub sectionAfter : Section → Kind → Result Section LineFault
 sectionAfter s c = cond (plain.allowed s c) (Ok (plain.group c)) (Err Letter)
-
-abbrev pub countIn : Kind → Line → Result (Unit {0}) LineFault
-countIn c l = cond (eqb (l .count) (plain.fieldCount c) && leb (l .len) 255) (Ok tt) (Err (Count (l .count)))
 
 -- a fault at the line read last
 abbrev pub refusing : Reader → DomainFault → plain.Reader

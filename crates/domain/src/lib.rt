@@ -1,7 +1,5 @@
 mod domain;
-mod lines;
 mod reader;
-mod tables;
 
 pub use domain::Domain;
 pub use reader::Reader;

@@ -4,7 +4,7 @@ ghost use Rattle.std.specs.Vec.{made};
 ghost use Rattle.std.specs.declared.option.Option.the-variants.{None};
 ghost use Rattle.reading.specs.Reading as plain;
 ghost use Rattle.domain.specs.Held.{stands, closedTables};
-ghost use Rattle.domain.specs.Steps.{Taken, lineIn, told, sectionAfter, kindIn, countIn, refusing};
+ghost use Rattle.domain.specs.Steps.{Taken, lineIn, told, sectionAfter, kindIn, refusing};
 use crate::domain::Domain;
 use fields::Line;
 use fields::LineFault;
@@ -34,7 +34,12 @@ impl Reader {
         ensures { λ r. ⌜ made r (λ d. stands d ≡ plain.start) ⌝ }
     {
         let domain = Domain::new(heap)?;
-        Ok(Reader { lines: 0, refused: None, section: Section::Facts, domain })
+        Ok(Reader {
+            lines: 0,
+            refused: None,
+            section: Section::Facts,
+            domain,
+        })
     }
 
     // Takes the next line, without its line end. After a refusal each further line gets that first fault back;
@@ -56,7 +61,8 @@ impl Reader {
     pub fn lines(&self) -> usize
         ensures { λ r. ⌜ r ≡ now (self .entry) .lines ⌝ }
     {
-        self.lines
+        let Reader { lines, .. } = self;
+        *lines
     }
 
     // The domain, once it is closed.
@@ -76,7 +82,7 @@ impl Reader {
         let line = Line::cut(bytes);
         let kind = kind_of(line.field(1))?;
         let next = self.section_after(kind)?;
-        counted(kind, &line)?;
+        line.check_count(field_count(kind))?;
         self.domain.declare(kind, &line)?;
         self.section = next;
         Ok(())
@@ -104,7 +110,10 @@ impl Reader {
         ensures fault { λ r. ⌜ r ≡ plain.faultAt cause (now (self .entry) .lines) ⌝ }
         ensures after { λ _. ⌜ stands (now (self .exit)) ≡ refusing (now (self .entry)) cause ⌝ }
     {
-        let fault = Fault { cause, line: self.lines };
+        let fault = Fault {
+            cause,
+            line: self.lines,
+        };
         match self.section {
             Section::Closed => fault,
             _ => {
@@ -149,14 +158,4 @@ fn field_count(kind: Kind) -> usize
         Kind::Between => 4,
         Kind::Closing => 1,
     }
-}
-
-// Whether a line has the number of fields of its kind, and at most 255 bytes.
-fn counted(kind: Kind, line: &Line) -> Result<(), LineFault>
-    ensures { λ r. ⌜ r ≡ countIn kind (now (line .entry)) ⌝ }
-{
-    if line.count() != field_count(kind) || line.len() > 255 {
-        return Err(LineFault::Count(line.count()));
-    }
-    Ok(())
 }

@@ -1,7 +1,9 @@
 -- what the values of this crate hold
-use mathlib.Core.Bool.{cond}
+use mathlib.Core.Bool.{cond, _&&_}
 use mathlib.Core.List.{List, [], _∷_, map}
 use mathlib.Core.Path.{_≡_}
+use Prim.Native.Nat.{ℕ}
+use lib.Dec.{eqb, leb}
 use lib.ListN.{take}
 use denote.Ref.{RefT, now}
 use Rattle.std.specs.declared.option.Option.{Option}
@@ -9,6 +11,8 @@ use Rattle.std.specs.declared.option.Option.the-variants.{Some, None}
 use Rattle.std.specs.declared.result.Result.{Result}
 use Rattle.std.specs.declared.result.Result.the-variants.{Ok, Err}
 use Rattle.fields.specs.Text.{Bytes, parted}
+use Rattle.fields.specs.declared.faults.LineFault.{LineFault}
+use Rattle.fields.specs.declared.faults.LineFault.the-variants.{Count}
 use Rattle.fields.specs.declared.name.Name.{Name}
 use Rattle.fields.specs.declared.pieces.Pieces.{Pieces}
 use Rattle.fields.specs.declared.line.Line.{Line}
@@ -33,3 +37,7 @@ line-fields l = take (l .count) (map now (l .at))
 abbrev pub answered : {A B E : Type 0} → (A → B) → Result A E → Result B E
 answered f (Ok x) = Ok (f x)
 answered f (Err e) = Err e
+
+-- so many fields, and at most 255 bytes
+abbrev pub countIn : Line → ℕ → Result (Unit {0}) LineFault
+countIn l wanted = cond (eqb (l .count) wanted && leb (l .len) 255) (Ok tt) (Err (Count (l .count)))

@@ -5,9 +5,10 @@ ghost use lib.ListN.{length, getD, take};
 ghost use Rattle.std.specs.declared.option.Option.the-variants.{Some, None};
 ghost use Rattle.fields.specs.Text.{fields, at, items, numberForm, value};
 ghost use Rattle.fields.specs.Read.{nameIn, numberIn, markIn, listIn, shortListIn};
-ghost use Rattle.fields.specs.Held.{name-text, pieces-left, line-fields, answered};
+ghost use Rattle.fields.specs.Held.{name-text, pieces-left, line-fields, answered, countIn};
 use crate::faults::FieldCause;
 use crate::faults::FieldFault;
+use crate::faults::LineFault;
 use crate::name::Name;
 use crate::pieces::Pieces;
 
@@ -42,17 +43,14 @@ impl<'a> Line<'a> {
         }
     }
 
-    // How many fields the line has, however long it is.
-    pub fn count(&self) -> usize
-        ensures { λ r. ⌜ r ≡ now (self .entry) .count ⌝ }
+    // Whether the line has so many fields, and at most 255 bytes. The fault tells how many fields it has, however long it is.
+    pub fn check_count(&self, wanted: usize) -> Result<(), LineFault>
+        ensures { λ r. ⌜ r ≡ countIn (now (self .entry)) wanted ⌝ }
     {
-        self.count
-    }
-
-    pub fn len(&self) -> usize
-        ensures { λ r. ⌜ r ≡ now (self .entry) .len ⌝ }
-    {
-        self.len
+        if self.count != wanted || self.len > 255 {
+            return Err(LineFault::Count(self.count));
+        }
+        Ok(())
     }
 
     // Field k, from 1; empty where there is none.

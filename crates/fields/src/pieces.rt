@@ -56,7 +56,7 @@ impl<'a> Pieces<'a> {
     }
 
     // How many pieces are left.
-    pub fn count(&self) -> usize
+    pub(crate) fn count(&self) -> usize
         ensures { λ r. ⌜ r ≡ length (pieces-left (now (self .entry))) ⌝ }
     {
         if !self.more {

@@ -69,7 +69,7 @@ pub symbol-in : (t : Tables) (n : Bytes) (s : Subtask) → symbolOf t n ≡ Some
 symbol-in t n s e = go (indexOf n (actionNames t)) (taskOf t n) (index-lt n (actionNames t)) (index-lt n (taskNames t)) s e
   where
     go : (a j : Option ℕ) → ((i : ℕ) → a ≡ Some i → i < length (actionNames t)) → ((i : ℕ) → j ≡ Some i → i < length (taskNames t)) → (s : Subtask)
-      → orTask a j ≡ Some s → T (subtaskIn (length (t .actions)) (length (ranks t)) s)
+        → orTask a j ≡ Some s → T (subtaskIn (length (t .actions)) (length (ranks t)) s)
     go (Some i) j h k s e =
         let q : Primitive i ≡ s = cc in
         let g : i < length (t .actions) = simp length-map at (h i refl) in
@@ -82,7 +82,7 @@ symbol-in t n s e = go (indexOf n (actionNames t)) (taskOf t n) (index-lt n (act
 
 -- what each step of taking keeps, the whole keeps
 takes : {A B : Type 0} (P : B → Type 0) (step : B → A → B) (find : Bytes → Option A) (e : DomainFault)
-  → ((acc : B) (n : Bytes) (x : A) → find n ≡ Some x → P acc → P (step acc x)) → (ns : List Bytes) (acc y : B) → taking step find e acc ns ≡ Ok y → P acc → P y
+    → ((acc : B) (n : Bytes) (x : A) → find n ≡ Some x → P acc → P (step acc x)) → (ns : List Bytes) (acc y : B) → taking step find e acc ns ≡ Ok y → P acc → P y
 takes P step find e f [] acc y q h = subst P (ok-eq q) h
 takes P step find e f (n ∷ ns) acc y q h =
     let a = bound (found (find n) e) (λ x. taking step find e (step acc x) ns) y q in
@@ -100,7 +100,7 @@ set-lt : (t : Tables) (fs : List Bytes) (k set : ℕ) → factSet t fs k ≡ Ok 
 set-lt t fs k set q =
     let a = bound (field (listIn fs k)) (λ ns. taking withFact (factOf t) (Undeclared k) 0 ns) set q in
     lt→ltb _ _ (takes (λ s. s < 2 ^ length (t .facts)) withFact (factOf t) (Undeclared k)
-      (λ acc n f e h. or-lt (length (t .facts)) acc (2 ^ f) h (pow-lt (index-lt n (t .facts) f e))) (a .0) 0 set (a .2) (pow-pos (length (t .facts))))
+    (λ acc n f e h. or-lt (length (t .facts)) acc (2 ^ f) h (pow-lt (index-lt n (t .facts) f e))) (a .0) 0 set (a .2) (pow-pos (length (t .facts))))
 
 -- tables that grew
 abbrev Grown : List Task → List Task → Type 0
@@ -124,7 +124,7 @@ module _ (actions : ℕ) (ts us : List Task) (g : Grown ts us) where
   rungs-same n b (s ∷ ss) h =
       let k = and-both (subtaskIn actions (length ts) s) _ h in
       ap₂ _&&_ (ap₂ implies (ap (λ v. b && v) (all-same ss (k .1))) (below-same n s (k .0)))
-        (ap (λ v. rungs us n (b && v) ss) (vanish-same s (k .0)) ∙ rungs-same n (b && vanishes ts s) ss (k .1))
+      (ap (λ v. rungs us n (b && v) ss) (vanish-same s (k .0)) ∙ rungs-same n (b && vanishes ts s) ss (k .1))
 
 subtask-wider : (a b m n : ℕ) → a ≤ b → m ≤ n → (s : Subtask) → T (subtaskIn a m s) → T (subtaskIn b n s)
 subtask-wider a b m n h k (Primitive i) l = let z = ltb→lt i a l in lt→ltb i b (omega arith)
@@ -150,7 +150,7 @@ action-wider a b h x k =
     let y = and-both (ltb (x .needs) (2 ^ a)) _ k in
     let z = and-both (ltb (x .adds) (2 ^ a)) (ltb (x .deletes) (2 ^ a)) (y .1) in
     both-and (ltb (x .needs) (2 ^ b)) _ (set-wider a b h (x .needs) (y .0))
-      (both-and (ltb (x .adds) (2 ^ b)) _ (set-wider a b h (x .adds) (z .0)) (set-wider a b h (x .deletes) (z .1)))
+    (both-and (ltb (x .adds) (2 ^ b)) _ (set-wider a b h (x .adds) (z .0)) (set-wider a b h (x .deletes) (z .1)))
 
 method-wider : (f f′ a a′ : ℕ) (ts us : List Task) → f ≤ f′ → a ≤ a′ → Grown ts us → (m : Method) → T (methodSound f a ts m) → T (methodSound f′ a′ us m)
 method-wider f f′ a a′ ts us hf ha g m h =
@@ -164,7 +164,8 @@ method-wider f f′ a a′ ts us hf ha g m h =
       few = p .few;
       constraints = all-sub _ _ (constraint-wider f f′ (length (m .subtasks)) hf) (m .constraints) (p .constraints);
       mark = subst T (sym (ap₂ implies (all-same a ts us g (m .subtasks) (p .subtasks)) (ap (λ (x : Task). x .vanish) o))) (p .mark);
-      ladder = subst T (sym (ap (λ (x : Task). rungs us (x .level) true (m .subtasks)) o ∙ rungs-same a ts us g (levelOf ts (m .owner)) true (m .subtasks) (p .subtasks))) (p .ladder) })
+      ladder = subst T (sym (ap (λ (x : Task). rungs us (x .level) true (m .subtasks)) o ∙ rungs-same a ts us g (levelOf ts (m .owner)) true (m .subtasks) (p .subtasks))) (p .ladder);
+    })
 
 -- each kind of line
 module _ (t u : Tables) (fs : List Bytes) where
@@ -178,10 +179,13 @@ module _ (t u : Tables) (fs : List Bytes) where
       let w : length (t .facts) ≤ length (t .facts ++ a .0 ∷ []) = omega arith in
       subst (λ (u : Tables). T (sound u)) (ok-eq (b .1)) (parts-sound (addFact t (a .0)) (record {
         facts = omega arith;
-        actions = p .actions; tasks = p .tasks; methods = p .methods;
+        actions = p .actions;
+        tasks = p .tasks;
+        methods = p .methods;
         sets = all-sub _ _ (action-wider _ _ w) (t .actions) (p .sets);
         levels = p .levels;
-        ways = all-sub _ _ (method-wider _ _ _ _ (ranks t) (ranks t) w (omega arith) (omega arith, λ i k. refl)) (t .methods) (p .ways) }))
+        ways = all-sub _ _ (method-wider _ _ _ _ (ranks t) (ranks t) w (omega arith) (omega arith, λ i k. refl)) (t .methods) (p .ways);
+      }))
 
   action-keeps : actionLine t fs ≡ Ok u → T (sound t) → T (sound u)
   action-keeps e h =
@@ -199,10 +203,12 @@ module _ (t u : Tables) (fs : List Bytes) where
       subst (λ (u : Tables). T (sound u)) (ok-eq (b .1)) (parts-sound (addAction t v) (record {
         facts = p .facts;
         actions = omega arith;
-        tasks = p .tasks; methods = p .methods;
+        tasks = p .tasks;
+        methods = p .methods;
         sets = all-push _ (t .actions) v (p .sets) (both-and _ _ (set-lt t fs 3 (n .0) (n .1)) (both-and _ _ (set-lt t fs 4 (d .0) (d .1)) (set-lt t fs 5 (x .0) (x .1))));
         levels = p .levels;
-        ways = all-sub _ _ (method-wider _ _ _ _ (ranks t) (ranks t) (omega arith) w (omega arith, λ i k. refl)) (t .methods) (p .ways) }))
+        ways = all-sub _ _ (method-wider _ _ _ _ (ranks t) (ranks t) (omega arith) w (omega arith, λ i k. refl)) (t .methods) (p .ways);
+      }))
 
   task-keeps : taskLine t fs ≡ Ok u → T (sound t) → T (sound u)
   task-keeps e h =
@@ -218,12 +224,14 @@ module _ (t u : Tables) (fs : List Bytes) where
       let w = length-append (ranks t) (rank v ∷ []) in
       let g : Grown (ranks t) (ranks t ++ rank v ∷ []) = (omega arith, λ i k. List·getD-append (ranks t) (rank v ∷ []) noTask i k) in
       subst (λ (u : Tables). T (sound u)) (ok-eq (b .1)) (parts-sound (addTask t v) (record {
-        facts = p .facts; actions = p .actions;
+        facts = p .facts;
+        actions = p .actions;
         tasks = omega arith;
         methods = p .methods;
         sets = p .sets;
         levels = all-push taskSound (t .tasks) v (p .levels) (le→leb (n .0) 7 (number-in fs 3 0 7 (n .0) (n .1) .1));
-        ways = all-sub _ _ (method-wider _ _ _ _ (ranks t) (ranks (addTask t v)) (omega arith) (omega arith) (subst (Grown (ranks t)) (sym q) g)) (t .methods) (p .ways) }))
+        ways = all-sub _ _ (method-wider _ _ _ _ (ranks t) (ranks (addTask t v)) (omega arith) (omega arith) (subst (Grown (ranks t)) (sym q) g)) (t .methods) (p .ways);
+      }))
 
   method-keeps : methodLine t fs ≡ Ok u → T (sound t) → T (sound u)
   method-keeps e h =
@@ -247,18 +255,22 @@ module _ (t u : Tables) (fs : List Bytes) where
       let y = takes-length (symbolOf t) (Undeclared 5) (ns .0) [] (s .0) (ns .2) in
       let o : a .0 < length (ranks t) = simp length-map (simp length-map at (old-lt (taskNames t) fs 2 (a .0) (a .1))) in
       subst (λ (u : Tables). T (sound u)) (ok-eq (l .1)) (parts-sound (addMethod t v) (record {
-        facts = p .facts; actions = p .actions; tasks = p .tasks;
+        facts = p .facts;
+        actions = p .actions;
+        tasks = p .tasks;
         methods = omega arith;
         sets = p .sets;
         levels = p .levels;
         ways = all-push (methodSound (length (t .facts)) (length (t .actions)) (ranks t)) (t .methods) v (p .ways) (parts-method (length (t .facts)) (length (t .actions)) (ranks t) v (record {
           owner = o;
           subtasks = takes (λ ss. T (all (subtaskIn (length (t .actions)) (length (ranks t))) ss)) withLast (symbolOf t) (Undeclared 5)
-            (λ acc n i w j. all-push _ acc i j (symbol-in t n i w)) (ns .0) [] (s .0) (ns .2) tt;
+              (λ acc n i w j. all-push _ acc i j (symbol-in t n i w)) (ns .0) [] (s .0) (ns .2) tt;
           few = omega arith;
           constraints = tt;
           mark = m .0;
-          ladder = l .0 })) }))
+          ladder = l .0;
+        }));
+      }))
 
 -- the last method takes a constraint in range
 constraint-keeps : (t : Tables) (c : Constraint) → T (sound t) → T (constraintIn (length (t .facts)) (arity t) c) → T (sound (addConstraint t c))
@@ -266,20 +278,27 @@ constraint-keeps t c h k =
     let p = sound-parts t h in
     let l = length-last (constrained c) (t .methods) in
     parts-sound (addConstraint t c) (record {
-      facts = p .facts; actions = p .actions; tasks = p .tasks;
+      facts = p .facts;
+      actions = p .actions;
+      tasks = p .tasks;
       methods = omega arith;
       sets = p .sets;
       levels = p .levels;
-      ways = all-last _ (constrained c) noMethod (t .methods) (p .ways) (more (lastMethod t) k) })
+      ways = all-last _ (constrained c) noMethod (t .methods) (p .ways) (more (lastMethod t) k);
+    })
   where
     more : (m : Method) → T (constraintIn (length (t .facts)) (length (m .subtasks)) c) → T (methodSound (length (t .facts)) (length (t .actions)) (ranks t) m)
-      → T (methodSound (length (t .facts)) (length (t .actions)) (ranks t) (constrained c m))
+        → T (methodSound (length (t .facts)) (length (t .actions)) (ranks t) (constrained c m))
     more m k g =
         let p = method-parts (length (t .facts)) (length (t .actions)) (ranks t) m g in
         parts-method _ _ _ (constrained c m) (record {
-          owner = p .owner; subtasks = p .subtasks; few = p .few;
+          owner = p .owner;
+          subtasks = p .subtasks;
+          few = p .few;
           constraints = all-push _ (m .constraints) c (p .constraints) k;
-          mark = p .mark; ladder = p .ladder })
+          mark = p .mark;
+          ladder = p .ladder;
+        })
 
 module _ (t u : Tables) (fs : List Bytes) where
   position-keeps : (c : ℕ → ℕ → Constraint) → ((facts k j f : ℕ) → T (leb j k) → T (ltb f facts) → T (constraintIn facts k (c j f))) → positionLine c t fs ≡ Ok u → T (sound t) → T (sound u)
@@ -288,7 +307,7 @@ module _ (t u : Tables) (fs : List Bytes) where
       let f = bound (oldName (factOf t) fs 3) _ u (j .2) in
       let r = passed (ltb (length (lastMethod t .constraints)) 4) Full (Ok (addConstraint t (c (j .0) (f .0)))) u (f .2) in
       subst (λ (u : Tables). T (sound u)) (ok-eq (r .1)) (constraint-keeps t (c (j .0) (f .0)) h
-        (w (length (t .facts)) (arity t) (j .0) (f .0) (le→leb _ _ (number-in fs 2 0 (arity t) (j .0) (j .1) .1)) (lt→ltb _ _ (old-lt (t .facts) fs 3 (f .0) (f .1)))))
+      (w (length (t .facts)) (arity t) (j .0) (f .0) (le→leb _ _ (number-in fs 2 0 (arity t) (j .0) (j .1) .1)) (lt→ltb _ _ (old-lt (t .facts) fs 3 (f .0) (f .1)))))
 
   between-keeps : betweenLine t fs ≡ Ok u → T (sound t) → T (sound u)
   between-keeps e h =
@@ -300,8 +319,8 @@ module _ (t u : Tables) (fs : List Bytes) where
       let a = number-in fs 2 1 (arity t) (i .0) (i .1) in
       let b = number-in fs 4 (suc (i .0)) (arity t) (j .0) (j .1) in
       subst (λ (u : Tables). T (sound u)) (ok-eq (r .1)) (constraint-keeps t c h
-        (both-and (leb 1 (i .0)) _ (le→leb _ _ (a .0)) (both-and (ltb (i .0) (j .0)) _ (lt→ltb _ _ (b .0))
-          (both-and (leb (j .0) (arity t)) (ltb (f .0) (length (t .facts))) (le→leb _ _ (b .1)) (lt→ltb _ _ (old-lt (t .facts) fs 3 (f .0) (f .1)))))))
+      (both-and (leb 1 (i .0)) _ (le→leb _ _ (a .0)) (both-and (ltb (i .0) (j .0)) _ (lt→ltb _ _ (b .0))
+      (both-and (leb (j .0) (arity t)) (ltb (f .0) (length (t .facts))) (le→leb _ _ (b .1)) (lt→ltb _ _ (old-lt (t .facts) fs 3 (f .0) (f .1)))))))
 
 pub keeps : (c : Kind) (t u : Tables) (fs : List Bytes) → declared c t fs ≡ Ok u → T (sound t) → T (sound u)
 keeps kind.Fact t u fs = fact-keeps t u fs

@@ -32,10 +32,10 @@ module _ (facts actions : ℕ) (tasks : List Task) (m : Method) where
   pub parts-method : MethodParts facts actions tasks m → T (methodSound facts actions tasks m)
   parts-method p =
       both-and (ltb (m .owner) (length tasks)) _ (lt→ltb _ _ (p .owner))
-        (both-and (all (subtaskIn actions (length tasks)) (m .subtasks)) _ (p .subtasks)
-          (both-and (leb (length (m .subtasks)) 4) _ (le→leb _ _ (p .few))
-            (both-and (all (constraintIn facts (length (m .subtasks))) (m .constraints)) _ (p .constraints)
-              (both-and (keepsMark tasks (m .owner) (m .subtasks)) (keepsLadder tasks (m .owner) (m .subtasks)) (p .mark) (p .ladder)))))
+      (both-and (all (subtaskIn actions (length tasks)) (m .subtasks)) _ (p .subtasks)
+      (both-and (leb (length (m .subtasks)) 4) _ (le→leb _ _ (p .few))
+      (both-and (all (constraintIn facts (length (m .subtasks))) (m .constraints)) _ (p .constraints)
+      (both-and (keepsMark tasks (m .owner) (m .subtasks)) (keepsLadder tasks (m .owner) (m .subtasks)) (p .mark) (p .ladder)))))
 
 pub record Parts (t : Tables) : Type 0 where
   pub facts : length (t .facts) ≤ 64
@@ -60,11 +60,11 @@ module _ (t : Tables) where
   pub parts-sound : Parts t → T (sound t)
   parts-sound p =
       both-and (fits t) _
-        (both-and (leb (length (t .facts)) 64) _ (le→leb _ _ (p .facts))
-          (both-and (leb (length (t .actions)) 64) _ (le→leb _ _ (p .actions))
-            (both-and (leb (length (t .tasks)) 48) (leb (length (t .methods)) 128) (le→leb _ _ (p .tasks)) (le→leb _ _ (p .methods)))))
-        (both-and (all (actionSound (length (t .facts))) (t .actions)) _ (p .sets)
-          (both-and (all taskSound (t .tasks)) (all (methodSound (length (t .facts)) (length (t .actions)) (ranks t)) (t .methods)) (p .levels) (p .ways)))
+      (both-and (leb (length (t .facts)) 64) _ (le→leb _ _ (p .facts))
+      (both-and (leb (length (t .actions)) 64) _ (le→leb _ _ (p .actions))
+      (both-and (leb (length (t .tasks)) 48) (leb (length (t .methods)) 128) (le→leb _ _ (p .tasks)) (le→leb _ _ (p .methods)))))
+      (both-and (all (actionSound (length (t .facts))) (t .actions)) _ (p .sets)
+      (both-and (all taskSound (t .tasks)) (all (methodSound (length (t .facts)) (length (t .actions)) (ranks t)) (t .methods)) (p .levels) (p .ways)))
 
   -- method m of sound tables
   pub method-at : T (sound t) → (m : ℕ) → m < length (t .methods) → T (methodSound (length (t .facts)) (length (t .actions)) (ranks t) (getD (t .methods) m noMethod))

@@ -43,16 +43,21 @@ method-sound t m h =
       few = p .few;
       constraints = each-of _ _ (constraint-in (length (t .facts)) (length (m .subtasks))) (m .constraints) (p .constraints);
       mark = r .0 .0 (p .mark);
-      ladder = r .1 .0 (p .ladder) }
+      ladder = r .1 .0 (p .ladder);
+    }
 
 pub sounds : (t : Tables) → T (sound t) → Sound t
 sounds t h =
     let p = sound-parts t h in
     record {
-      facts = p .facts; actions = p .actions; tasks = p .tasks; methods = p .methods;
+      facts = p .facts;
+      actions = p .actions;
+      tasks = p .tasks;
+      methods = p .methods;
       sets = each-of _ _ (action-sound (length (t .facts))) (t .actions) (p .sets);
       levels = each-of _ _ (λ e k. leb→le (e .level) 7 k) (t .tasks) (p .levels);
-      ways = each-of _ _ (method-sound t) (t .methods) (p .ways) }
+      ways = each-of _ _ (method-sound t) (t .methods) (p .ways);
+    }
 
 -- method m of sound tables
 pub way-at : (t : Tables) → T (sound t) → (m : ℕ) → m < length (t .methods) → SoundMethod t (getD (t .methods) m noMethod)

@@ -28,7 +28,6 @@ Check A = Result A DomainFault
 
 infixl 10 _>>=_
 infixl 10 _>>_
-
 abbrev pub _>>=_ : {A B : Type 0} → Check A → (A → Check B) → Check B
 Ok x >>= f = f x
 Err e >>= f = Err e

@@ -68,7 +68,7 @@ taskSound e = leb (e .level) 7
 abbrev pub methodSound : ℕ → ℕ → List Task → Method → Bool
 methodSound facts actions tasks m =
     ltb (m .owner) (length tasks) && (all (subtaskIn actions (length tasks)) (m .subtasks) && (leb (length (m .subtasks)) 4
-      && (all (constraintIn facts (length (m .subtasks))) (m .constraints) && (keepsMark tasks (m .owner) (m .subtasks) && keepsLadder tasks (m .owner) (m .subtasks)))))
+    && (all (constraintIn facts (length (m .subtasks))) (m .constraints) && (keepsMark tasks (m .owner) (m .subtasks) && keepsLadder tasks (m .owner) (m .subtasks)))))
 
 abbrev pub fits : Tables → Bool
 fits t = leb (length (t .facts)) 64 && (leb (length (t .actions)) 64 && (leb (length (t .tasks)) 48 && leb (length (t .methods)) 128))
@@ -76,4 +76,4 @@ fits t = leb (length (t .facts)) 64 && (leb (length (t .actions)) 64 && (leb (le
 abbrev pub sound : Tables → Bool
 sound t =
     fits t && (all (actionSound (length (t .facts))) (t .actions) && (all taskSound (t .tasks)
-      && all (methodSound (length (t .facts)) (length (t .actions)) (ranks t)) (t .methods)))
+    && all (methodSound (length (t .facts)) (length (t .actions)) (ranks t)) (t .methods)))

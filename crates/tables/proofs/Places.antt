@@ -18,3 +18,7 @@ pub past : {A : Type 0} (d : A) (xs : List A) (i : ℕ) → length xs ≤ i → 
 past d [] i h = refl
 past d (y ∷ ys) zero h = absurd (omega arith)
 past d (y ∷ ys) (suc i) h = past d ys i (omega arith)
+
+pub map-map : {A B C : Type 0} (g : B → C) (f : A → B) (xs : List A) → map g (map f xs) ≡ map (λ x. g (f x)) xs
+map-map g f [] = refl
+map-map g f (x ∷ xs) = ap (λ z. g (f x) ∷ z) (map-map g f xs)

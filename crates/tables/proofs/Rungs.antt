@@ -22,10 +22,10 @@ module _ (ts : List Task) (top : ℕ) (before : Bool) (xs : List Subtask) (i : �
       sym come ∙ at-drop-more (rungs ts top before) xs i d h ∙ ap (λ (b : Bool). onward b (getD xs i d)) (ap (rungOf (getD xs i d)) (sym r) ∙ e)
 
   pub rungs-more : (d : Subtask) (rest : List Subtask) (after : Bool) → i < length xs → rest ≡ drop (i + 1) xs → rungOf (getD xs i d) rest ≡ true
-    → after ≡ before && vanishes ts (getD xs i d) → rungs ts top after (drop (i + 1) xs) ≡ rungs ts top true xs
+      → after ≡ before && vanishes ts (getD xs i d) → rungs ts top after (drop (i + 1) xs) ≡ rungs ts top true xs
   rungs-more d rest after h r e q =
       ap (λ (b : Bool). rungs ts top b (drop (i + 1) xs)) q
-        ∙ sym (at-drop-more (rungs ts top before) xs i d h ∙ ap (λ (b : Bool). onward b (getD xs i d)) (ap (rungOf (getD xs i d)) (sym r) ∙ e)) ∙ come
+      ∙ sym (at-drop-more (rungs ts top before) xs i d h ∙ ap (λ (b : Bool). onward b (getD xs i d)) (ap (rungOf (getD xs i d)) (sym r) ∙ e)) ∙ come
 
   pub rungs-end : length xs ≤ i → rungs ts top true xs ≡ true
   rungs-end h = sym come ∙ at-drop-all (rungs ts top before) xs i h

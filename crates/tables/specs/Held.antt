@@ -1,6 +1,8 @@
 -- what the entries of the tables mean
 use mathlib.Core.Bool.{cond}
 use mathlib.Core.List.{List, [], _∷_, _++_, map}
+use mathlib.Core.Path.{_≡_}
+use Prim.Native.Nat.{ℕ, _<_, _≤_}
 use lib.Dec.{ltb}
 use lib.ListN.{length}
 use Rattle.std.specs.declared.option.Option.{Option}
@@ -48,3 +50,8 @@ task-ranks ts = map rank (map task-entry ts)
 -- the action or the task of a name
 abbrev pub symbolIn : List Action → List Task → Bytes → Option Subtask
 symbolIn actions tasks n = orTask (indexOf n (map action-name actions)) (indexOf n (map task-name tasks))
+
+-- the place that an entry was found at, or how many there are
+pub record Place (found : Option ℕ) (size place : ℕ) : Type 0 where
+  pub hit : place < size → found ≡ Some place
+  pub miss : size ≤ place → found ≡ None

@@ -1,7 +1,8 @@
 ghost use mathlib.Core.Path.{_≡_};
 ghost use mathlib.Core.List.{map};
+ghost use lib.ListN.{length};
 ghost use Rattle.reading.specs.Tables.{indexOf};
-ghost use Rattle.tables.specs.Held.{symbolIn};
+ghost use Rattle.tables.specs.Held.{Place, symbolIn};
 use crate::entries::Action;
 use crate::entries::ActionNamed;
 use crate::entries::Named;
@@ -13,12 +14,20 @@ use theory::Subtask;
 pub fn find<T: Named>(items: &[T], name: &[u8]) -> Option<usize>
     ensures { λ r. ⌜ r ≡ indexOf (now (name .entry)) (map text (now (items .entry))) ⌝ }
 {
+    let i = position(items, name);
+    if i < items.len() { Some(i) } else { None }
+}
+
+// The place of the first that has this name, or how many there are.
+fn position<T: Named>(items: &[T], name: &[u8]) -> usize
+    ensures { λ r. ⌜ Place (indexOf (now (name .entry)) (map text (now (items .entry)))) (length (now (items .entry))) r ⌝ }
+{
     for (i, item) in items.iter().enumerate() {
         if item.name().as_bytes() == name {
-            return Some(i);
+            return i;
         }
     }
-    None
+    items.len()
 }
 
 // The action or the task of this name.

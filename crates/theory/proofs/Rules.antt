@@ -30,7 +30,7 @@ module _ (tasks : List Task) where
   all-vanishing (s ∷ ss) h = let k = and-both (vanishes tasks s) (all (vanishes tasks) ss) h in (vanishing s (k .0), all-vanishing ss (k .1))
 
   ladder-kept : (n : ℕ) (pre : Bool) (ss us : List Subtask) (t : ℕ) (vs : List Subtask) → T pre → T (rungs tasks n pre ss) → ss ≡ us ++ (Compound t ∷ vs)
-    → All (Vanishing tasks) us → All (Vanishing tasks) vs → levelOf tasks t < n
+      → All (Vanishing tasks) us → All (Vanishing tasks) vs → levelOf tasks t < n
   ladder-kept n pre [] [] t vs p h e a b = let z : _≡_ {A = ℕ} 0 1 = cc in absurd (omega arith)
   ladder-kept n pre [] (u ∷ us) t vs p h e a b = let z : _≡_ {A = ℕ} 0 1 = cc in absurd (omega arith)
   ladder-kept n pre (s ∷ ss) [] t vs p h e a b =
@@ -55,14 +55,19 @@ module _ (tasks : List Task) where
   ladder-tested n pre [] h = tt
   ladder-tested n pre (s ∷ ss) h =
       both-and (implies (pre && all (vanishes tasks) ss) (below tasks n s)) (rungs tasks n (pre && vanishes tasks s) ss)
-        (implying (pre && all (vanishes tasks) ss) (below tasks n s) (λ q. let r = and-both pre (all (vanishes tasks) ss) q in
-          rung n s ss (λ t e v. h (r .0) [] t ss (ap (λ (x : Subtask). x ∷ ss) e) tt v) (r .1)))
-        (ladder-tested n (pre && vanishes tasks s) ss (λ q us t vs e a b. let r = and-both pre (vanishes tasks s) q in
-          h (r .0) (s ∷ us) t vs (ap (λ (xs : List Subtask). s ∷ xs) e) (vanishing s (r .1), a) b))
+      (implying (pre && all (vanishes tasks) ss) (below tasks n s) (λ q. let r = and-both pre (all (vanishes tasks) ss) q in
+      rung n s ss (λ t e v. h (r .0) [] t ss (ap (λ (x : Subtask). x ∷ ss) e) tt v) (r .1)))
+      (ladder-tested n (pre && vanishes tasks s) ss (λ q us t vs e a b. let r = and-both pre (vanishes tasks s) q in
+      h (r .0) (s ∷ us) t vs (ap (λ (xs : List Subtask). s ∷ xs) e) (vanishing s (r .1), a) b))
 
 pub rules-decided : Rules-decided
-rules-decided tasks owner ss =
-    ((λ h a. vanishing tasks (Compound owner) (implied (all (vanishes tasks) ss) (vanishes tasks (Compound owner)) h (all-tested tasks ss a)),
-      λ h. implying (all (vanishes tasks) ss) (vanishes tasks (Compound owner)) (λ q. tested tasks (Compound owner) (h (all-vanishing tasks ss q)))),
-     (λ h us t vs e a b. ladder-kept tasks (levelOf tasks owner) true ss us t vs tt h e a b,
-      λ h. ladder-tested tasks (levelOf tasks owner) true ss (λ _ us t vs e a b. h us t vs e a b)))
+rules-decided tasks owner ss = (
+  (
+    λ h a. vanishing tasks (Compound owner) (implied (all (vanishes tasks) ss) (vanishes tasks (Compound owner)) h (all-tested tasks ss a)),
+    λ h. implying (all (vanishes tasks) ss) (vanishes tasks (Compound owner)) (λ q. tested tasks (Compound owner) (h (all-vanishing tasks ss q))),
+  ),
+  (
+    λ h us t vs e a b. ladder-kept tasks (levelOf tasks owner) true ss us t vs tt h e a b,
+    λ h. ladder-tested tasks (levelOf tasks owner) true ss (λ _ us t vs e a b. h us t vs e a b),
+  ),
+)

@@ -12,7 +12,7 @@ use std::str::from_utf8;
 
 impl Name {
     // The name that a text is, where it has a name's form.
-    pub fn new(text: &[u8]) -> Option<Name>
+    pub(crate) fn new(text: &[u8]) -> Option<Name>
         ensures { λ r. ⌜ mapped name-text r ≡ cond (nameForm (now (text .entry))) (Some (now (text .entry))) None ⌝ }
     {
         if !is_name(text) {

@@ -21,15 +21,15 @@ pub returns-then-not-rung : need.returns-then-not-rung
 returns-then-not-rung c =
     let ts = task-ranks (c .args .tasks .now) in
     sym (sym (ap (λ (n : ℕ). rungs ts n true (c .args .subtasks .now)) (c .level-top .ensures))
-      ∙ rungs-stop ts (c .level-top .result) (c .loop-i .before) (c .args .subtasks .now) (c .loop-i .i) (c .loop-i .inv) _ _ (c .loop-i-test .taken)
-        (rest-all (c .loop-i .i + 1) (c .args .subtasks .now)) (sym (c .rung .ensures) ∙ c .if-not-rung .taken))
+    ∙ rungs-stop ts (c .level-top .result) (c .loop-i .before) (c .args .subtasks .now) (c .loop-i .i) (c .loop-i .inv) _ _ (c .loop-i-test .taken)
+    (rest-all (c .loop-i .i + 1) (c .args .subtasks .now)) (sym (c .rung .ensures) ∙ c .if-not-rung .taken))
 
 pub loop-i-again : need.loop-i-again
 loop-i-again c =
     let ts = task-ranks (c .args .tasks .now) in
     rungs-more ts (c .level-top .result) (c .loop-i .before) (c .args .subtasks .now) (c .loop-i .i) (c .loop-i .inv) _ _ (c .both-before .result) (c .loop-i-test .taken)
-      (rest-all (c .loop-i .i + 1) (c .args .subtasks .now)) (sym (c .rung .ensures) ∙ c .if-not-rung .left)
-      (c .both-before .ensures ∙ ap (λ (b : Bool). c .loop-i .before && b) (c .vanishes .ensures))
+    (rest-all (c .loop-i .i + 1) (c .args .subtasks .now)) (sym (c .rung .ensures) ∙ c .if-not-rung .left)
+    (c .both-before .ensures ∙ ap (λ (b : Bool). c .loop-i .before && b) (c .vanishes .ensures))
 
 pub returns : need.returns
 returns c =

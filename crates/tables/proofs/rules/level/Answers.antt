@@ -10,4 +10,4 @@ returns-then-t-tasks c = sym (ap (λ (t : Task). t .level) (rank-past (c .args .
 pub returns : need.returns
 returns c =
     ap (λ (t : Entry). t .level) (sym (c .index-tasks-t .is))
-      ∙ sym (ap (λ (t : Task). t .level) (rank-at (c .args .tasks .now) (c .args .t) (c .index-tasks-t .result) (c .if-t-tasks .left) (c .index-tasks-t .is)))
+    ∙ sym (ap (λ (t : Task). t .level) (rank-at (c .args .tasks .now) (c .args .t) (c .index-tasks-t .result) (c .if-t-tasks .left) (c .index-tasks-t .is)))

@@ -10,6 +10,9 @@ pub returns-in-Closed : need.returns-in-Closed
 returns-in-Closed c =
     let r = c .args .self .now in
     let t = domain-tables (r .domain) in
-    record { fault = refl; after =
-      ap (λ (o : Option Fault). standing o (r .section) t (r .lines)) (c .pre)
-        ∙ (ap (λ (s : Section). reading s t (r .lines)) (c .in-Closed .is) ∙ sym (ap (λ (s : Section). faulted s t (r .lines) (c .args .cause)) (c .in-Closed .is))) }
+    record {
+      fault = refl;
+      after =
+          ap (λ (o : Option Fault). standing o (r .section) t (r .lines)) (c .pre)
+          ∙ (ap (λ (s : Section). reading s t (r .lines)) (c .in-Closed .is) ∙ sym (ap (λ (s : Section). faulted s t (r .lines) (c .args .cause)) (c .in-Closed .is)));
+    }

@@ -1,0 +1,5 @@
+pub mod Closing
+mod Rooms
+mod Takes
+mod Lasts
+mod Entries

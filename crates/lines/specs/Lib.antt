@@ -1,0 +1,3 @@
+pub mod Closes
+pub mod Took
+pub mod Entries
