@@ -1,6 +1,6 @@
 use domain::Reader;
-use listing::refusal_line;
-use listing::unclosed_line;
+use report::refusal_line;
+use report::unclosed_line;
 use std::io;
 use std::io::BufRead;
 use std::io::BufReader;

@@ -7,21 +7,14 @@ use lib.Chars.{codes}
 use lib.Dec.{eqb}
 use lib.ListN.{getD}
 use Rattle.std.specs.Written.{decimal}
-use Rattle.fields.specs.Text.{Bytes, joined, tab, comma}
+use Rattle.fields.specs.Text.{Bytes, joined, comma}
 use Rattle.theory.specs.Model.{Method}
 use Rattle.theory.specs.declared.Subtask.{Subtask}
 use Rattle.theory.specs.declared.Subtask.the-variants.{Primitive, Compound}
 use Rattle.theory.specs.declared.Constraint.{Constraint}
 use Rattle.theory.specs.declared.Constraint.the-variants.{Before, After, Between}
-use Rattle.reading.specs.Faults.{reported}
+use Rattle.report.specs.Report.{row}
 use Rattle.reading.specs.Tables.{Tables, ActionEntry, TaskEntry, actionNames, taskNames}
-use Rattle.reading.specs.declared.faults.Fault.{Fault}
-
--- fields with tabs between them, and a line feed
-abbrev pub row : List Bytes → Bytes
-row [] = 10 ∷ []
-row (f ∷ []) = f ++ 10 ∷ []
-row (f ∷ g ∷ fs) = f ++ tab ∷ row (g ∷ fs)
 
 -- names with commas between them, or a lone hyphen
 abbrev pub nameList : List Bytes → Bytes
@@ -105,13 +98,3 @@ module _ (t : Tables) where
 
   abbrev pub listing : Bytes
   listing = ((factPart ++ actionPart) ++ taskPart) ++ methodPart
-
--- a refusal: its number, layer, line and field
-abbrev pub refusal : Fault → Bytes
-refusal f =
-    row (codes "R" ∷ decimal (reported (f .cause) .number) ∷ decimal (reported (f .cause) .layer)
-    ∷ decimal (f .line) ∷ decimal (reported (f .cause) .field) ∷ [])
-
--- a text without a closing line, after so many lines
-abbrev pub unclosed : ℕ → Bytes
-unclosed lines = row (codes "R" ∷ codes "11" ∷ codes "4" ∷ decimal lines ∷ codes "0" ∷ [])
