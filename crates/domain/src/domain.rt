@@ -2,11 +2,9 @@ ghost use mathlib.Core.Path.{_≡_};
 ghost use mathlib.Core.List.{map};
 ghost use Rattle.std.specs.Vec.{made};
 ghost use Rattle.fields.specs.Held.{name-text};
-ghost use Rattle.reading.specs.Reading.{declared};
 ghost use Rattle.reading.specs.Tables.{empty, factOf, symbolOf};
 ghost use Rattle.tables.specs.Held.{action-entry, task-entry, method-entry};
-ghost use Rattle.lines.specs.Took.{TookLine};
-ghost use Rattle.domain.specs.Held.{domain-tables, tables-of};
+ghost use Rattle.domain.specs.Held.{domain-tables, Took};
 use fields::Line;
 use fields::Name;
 use lines::LawfulTables;
@@ -40,7 +38,7 @@ impl Domain {
 
     // Takes what a line of this kind declares.
     pub(crate) fn declare(&mut self, kind: Kind, line: &Line) -> Result<(), DomainFault>
-        ensures { λ r. ⌜ TookLine r (tables-of (now (self .entry))) (tables-of (now (self .exit))) (declared kind) (now (line .entry)) ⌝ }
+        ensures { λ r. ⌜ Took r (now (self .entry)) (now (self .exit)) kind (now (line .entry)) ⌝ }
     {
         self.lawful.declare(kind, line)
     }
@@ -84,10 +82,6 @@ impl Domain {
     pub fn find_symbol(&self, name: &[u8]) -> Option<Subtask>
         ensures { λ r. ⌜ r ≡ symbolOf (domain-tables (now (self .entry))) (now (name .entry)) ⌝ }
     {
-        find_symbol(
-            self.lawful.tables.actions.as_slice(),
-            self.lawful.tables.tasks.as_slice(),
-            name,
-        )
+        find_symbol(self.actions(), self.tasks(), name)
     }
 }

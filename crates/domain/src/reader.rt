@@ -3,7 +3,7 @@ ghost use Rattle.std.specs.Options.{mapped};
 ghost use Rattle.std.specs.Vec.{made};
 ghost use Rattle.std.specs.declared.option.Option.the-variants.{None};
 ghost use Rattle.reading.specs.Reading as plain;
-ghost use Rattle.domain.specs.Held.{stands, closedTables};
+ghost use Rattle.domain.specs.Held.{stands, closedTables, linesRead};
 ghost use Rattle.domain.specs.Steps.{Taken, lineIn, told, sectionAfter, kindIn, refusing};
 use crate::domain::Domain;
 use fields::Line;
@@ -59,10 +59,12 @@ impl Reader {
 
     // How many lines were read, up to the first fault.
     pub fn lines(&self) -> usize
-        ensures { λ r. ⌜ r ≡ now (self .entry) .lines ⌝ }
+        ensures { λ r. ⌜ r ≡ linesRead (stands (now (self .entry))) ⌝ }
     {
-        let Reader { lines, .. } = self;
-        *lines
+        match self.refused {
+            Some(first) => first.line,
+            None => self.lines,
+        }
     }
 
     // The domain, once it is closed.

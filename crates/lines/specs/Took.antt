@@ -10,8 +10,10 @@ use Rattle.fields.specs.Text.{Bytes}
 use Rattle.fields.specs.declared.line.Line.{Line}
 use Rattle.theory.specs.declared.Subtask.{Subtask}
 use Rattle.reading.specs.Lines as plain
+use Rattle.reading.specs.Reading.{declared}
 use Rattle.reading.specs.Tables as plain-tables
 use Rattle.reading.specs.declared.faults.DomainFault.{DomainFault}
+use Rattle.reading.specs.declared.kinds.Kind.{Kind}
 use Rattle.lines.specs.declared.tables.Tables.{Tables}
 use Rattle.lines.specs.Closes.{meant, roomy}
 
@@ -26,6 +28,10 @@ Reading = plain-tables.Tables → List Bytes → plain.Check plain-tables.Tables
 
 abbrev pub TookLine : Result (Unit {0}) DomainFault → Tables → Tables → Reading → Line → Type 0
 TookLine r old new reads l = Took r old new (reads (meant old) (line-fields l))
+
+-- a line of this kind
+abbrev pub Declares : Result (Unit {0}) DomainFault → Tables → Tables → Kind → Line → Type 0
+Declares r old new kind l = TookLine r old new (declared kind) l
 
 module _ (t : Tables) (l : Line) (k : ℕ) where
   abbrev pub newFact : plain.Check Bytes

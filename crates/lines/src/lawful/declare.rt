@@ -1,9 +1,8 @@
 ghost use mathlib.Core.Path.{_≡_};
 ghost use Rattle.std.specs.Vec.{made};
-ghost use Rattle.reading.specs.Reading.{declared};
 ghost use Rattle.reading.specs.Tables.{empty};
 ghost use Rattle.lines.specs.Closes.{meant};
-ghost use Rattle.lines.specs.Took.{TookLine};
+ghost use Rattle.lines.specs.Took.{Declares};
 use crate::lawful::LawfulTables;
 use crate::tables::Tables;
 use fields::Line;
@@ -23,7 +22,7 @@ impl LawfulTables {
 
     // Takes what a line of this kind declares.
     pub fn declare(&mut self, kind: Kind, line: &Line) -> Result<(), DomainFault>
-        ensures { λ r. ⌜ TookLine r (now (self .entry) .tables) (now (self .exit) .tables) (declared kind) (now (line .entry)) ⌝ }
+        ensures { λ r. ⌜ Declares r (now (self .entry) .tables) (now (self .exit) .tables) kind (now (line .entry)) ⌝ }
     {
         match kind {
             Kind::Fact => self.tables.fact_line(line),
