@@ -1,3 +1,5 @@
+#![tactic(auto)]
+
 mod domain;
 mod reader;
 

@@ -1,3 +1,5 @@
+#![tactic(auto)]
+
 use domain::Reader;
 use listing::list_domain;
 use report::{refusal_line, unclosed_line};

@@ -1,3 +1,5 @@
+#![tactic(auto)]
+
 ghost use Rattle.fields.specs.Text.{FieldsRejoin};
 
 mod faults;

@@ -1,3 +1,5 @@
+#![tactic(auto)]
+
 use domain::Reader;
 use report::{refusal_line, unclosed_line};
 use std::io;

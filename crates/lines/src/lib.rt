@@ -1,3 +1,5 @@
+#![tactic(auto)]
+
 mod lawful;
 mod lines;
 mod tables;

@@ -1,3 +1,5 @@
+#![tactic(auto)]
+
 mod listing;
 mod names;
 mod rows;

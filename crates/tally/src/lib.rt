@@ -1,3 +1,5 @@
+#![tactic(auto)]
+
 mod counts;
 mod grades;
 mod interface;

@@ -1,3 +1,5 @@
+#![tactic(auto)]
+
 ghost use Rattle.std.specs.Prelude.{◌≡◌, Some};
 ghost use Rattle.theory.specs.Tallies.{stop};
 ghost use Rattle.tally.specs.Means.{number_or_none};

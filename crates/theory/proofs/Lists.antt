@@ -1,5 +1,5 @@
-use Rattle.std.proofs.Common.{Bool, true, false, ◌&&◌, T, List, [], ◌∷◌}
-use Rattle.theory.specs.Lists.{all, implies}
+use Rattle.std.proofs.Common.{Bool, true, false, ◌&&◌, T}
+use Rattle.theory.specs.Lists.{implies}
 
 pub and_both : (a b : Bool) → T (a && b) → T a × T b
 and_both true b h = (tt, h)

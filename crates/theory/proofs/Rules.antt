@@ -1,8 +1,8 @@
-use Rattle.std.proofs.Common.{◌≡◌, ℕ, ◌<◌, Bool, true, false, ◌&&◌, T, ltb, List, [], ◌∷◌, ◌++◌, get_or, sym, refl, ap, subst, arith, ltb→lt, lt→ltb}
+use Rattle.std.proofs.Common.{◌≡◌, ℕ, ◌<◌, Bool, true, ◌&&◌, T, List, [], ◌∷◌, ◌++◌, sym, refl, ap, subst, arith, ltb→lt, lt→ltb}
 use mathlib.Core.List.{head-eq_of_cons-eq, tail-eq_of_cons-eq}
 use Rattle.theory.specs.Lists.{All, all, implies}
-use Rattle.theory.specs.Model.{Task, no_task, level_of, Vanishing, MarkRule, LadderRule}
-use Rattle.theory.specs.Rules.{vanishes, below, keeps_mark, rungs, keeps_ladder, RulesDecided}
+use Rattle.theory.specs.Model.{Task, level_of, Vanishing}
+use Rattle.theory.specs.Rules.{vanishes, below, rungs, RulesDecided}
 use Rattle.theory.specs.declared.Subtask.{Subtask}
 use Rattle.theory.specs.declared.Subtask.TheVariants.{Primitive, Compound}
 use Rattle.theory.proofs.Lists.{and_both, both-and, implied, implying}

@@ -6,7 +6,7 @@ use native.Mathlib.Nat.{min-eq_left}
 use Rattle.std.proofs.lemmas.Bool.{cases_lt}
 use Rattle.std.proofs.lemmas.Bool.Decides.{nat_tests}
 use Rattle.theory.specs.Algebra.{Algebra, Laws, joined, sum, product}
-use Rattle.theory.specs.Tallies.{UpTo, stop, added, multiplied, smaller, larger, lower, both, top_count, verdicts, counts, prices, grades, pair_of, Parts}
+use Rattle.theory.specs.Tallies.{UpTo, stop, added, smaller, larger, lower, both, top_count, verdicts, counts, prices, grades, pair_of, Parts}
 
 -- two numbers up to n are the same where their values are
 pub same : {n : ℕ} (x y : UpTo n) → x.value ≡ y.value → x ≡ y

@@ -1,5 +1,5 @@
 -- the tasks and methods of a domain, and the two rules that its methods keep
-use Rattle.std.specs.Prelude.{◌≡◌, ℕ, ◌<◌, Bool, true, false, T, List, [], ◌∷◌, ◌++◌, slice_index_or}
+use Rattle.std.specs.Prelude.{◌≡◌, ℕ, ◌<◌, Bool, false, T, List, [], ◌∷◌, ◌++◌, slice_index_or}
 use Rattle.theory.specs.Lists.{All}
 use Rattle.theory.specs.declared.Subtask.{Subtask}
 use Rattle.theory.specs.declared.Subtask.TheVariants.{Primitive, Compound}

@@ -1,3 +1,5 @@
+#![tactic(auto)]
+
 ghost use Rattle.theory.specs.Rules.{RulesDecided};
 
 // What a method is broken down into: an action or a task, by its number.
