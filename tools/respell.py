@@ -36,7 +36,7 @@ def files():
 
 
 def declared():
-    """The names that specs/ and proofs/ declare, each with what it is: 'field', 'type' or 'word', and 'specs' where it stands there."""
+    """The names that specs/ and proofs/ declare, each with what it is: 'field', 'type', 'definition' or 'lemma', and 'specs' where it stands there."""
     found = {}
     for p in files():
         if not p.endswith(".antt"):
@@ -56,7 +56,8 @@ def declared():
                 continue
             d = DECLARED.match(line)
             if d and ": goal." not in line:
-                found.setdefault(d.group(3), set()).update({"field" if record is not None else "word"} | place)
+                kind = "field" if record is not None else "definition" if "abbrev" in d.group(2) else "lemma"
+                found.setdefault(d.group(3), set()).update({kind} | place)
     return found
 
 
@@ -71,7 +72,7 @@ def respelled(name, kinds, functions):
     if name[0].isupper():
         return parts[0] + "".join(p[:1].upper() + p[1:] for p in parts[1:])
     parts = [snake(p) for p in parts]
-    if "field" in kinds or not all(p in functions for p in parts):
+    if kinds & {"field", "definition"} or not all(p in functions for p in parts):
         return "_".join(parts)
     return "-".join(parts)
 

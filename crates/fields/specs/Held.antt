@@ -21,8 +21,8 @@ Gave None old new = (pieces_left old ≡ []) × (pieces_left new ≡ [])
 Gave (Some f) old new = pieces_left old ≡ f.now ∷ pieces_left new
 
 -- the first fields of a line, as many as any letter asks for
-abbrev pub line-fields : Line → List Bytes
-line-fields l = take l.count (map (λ x. x.now) l.at)
+abbrev pub line_fields : Line → List Bytes
+line_fields l = take l.count (map (λ x. x.now) l.at)
 
 -- an answer whose value is read by f
 abbrev pub answered : {A B E : Type 0} → (A → B) → Result A E → Result B E

@@ -1,7 +1,7 @@
 ghost use Rattle.std.specs.Prelude.{◌≡◌, [], length, take, if◌then◌else◌, Some, None, slice_index_or};
 ghost use Rattle.fields.specs.Text.{fields, at, items, number_form, value};
 ghost use Rattle.fields.specs.Read.{name_in, number_in, mark_in, list_in, short_list_in};
-ghost use Rattle.fields.specs.Held.{name_text, pieces_left, line-fields, answered, count_in};
+ghost use Rattle.fields.specs.Held.{name_text, pieces_left, line_fields, answered, count_in};
 
 use crate::faults::{FieldCause, FieldFault, LineFault};
 use crate::name::Name;
@@ -17,7 +17,7 @@ pub struct Line<'a> {
 
 impl<'a> Line<'a> {
     pub fn cut(bytes: &'a [u8]) -> Line<'a>
-        ensures first { line-fields result ≡ take 5 (fields bytes.now) }
+        ensures first { line_fields result ≡ take 5 (fields bytes.now) }
         ensures count { result.count ≡ length (fields bytes.now) }
         ensures len { result.len ≡ length bytes.now }
     {
@@ -50,14 +50,14 @@ impl<'a> Line<'a> {
 
     // Field k, from 1; empty where there is none.
     pub fn field(&self, k: u8) -> &'a [u8]
-        ensures { result.now ≡ at (line-fields self.now) k }
+        ensures { result.now ≡ at (line_fields self.now) k }
     {
         self.after((k as usize).saturating_sub(1))
     }
 
     // The field with so many before it; empty where there is none.
     fn after(&self, before: usize) -> &'a [u8]
-        ensures { result.now ≡ slice_index_or (line-fields self.now) before [] }
+        ensures { result.now ≡ slice_index_or (line_fields self.now) before [] }
     {
         if before >= 5 || before >= self.count {
             return &[];
@@ -66,7 +66,7 @@ impl<'a> Line<'a> {
     }
 
     pub fn name(&self, k: u8) -> Result<Name, FieldFault>
-        ensures { answered name_text result ≡ name_in (line-fields self.now) k }
+        ensures { answered name_text result ≡ name_in (line_fields self.now) k }
     {
         match Name::new(self.field(k)) {
             Some(name) => Ok(name),
@@ -79,7 +79,7 @@ impl<'a> Line<'a> {
 
     // A number from low to high.
     pub fn number(&self, k: u8, low: u32, high: u32) -> Result<u32, FieldFault>
-        ensures { result ≡ number_in (line-fields self.now) k low high }
+        ensures { result ≡ number_in (line_fields self.now) k low high }
     {
         let Some(n) = number(self.field(k)) else {
             return Err(FieldFault {
@@ -98,7 +98,7 @@ impl<'a> Line<'a> {
 
     // Whether the mark is v; the other mark is n.
     pub fn mark(&self, k: u8) -> Result<bool, FieldFault>
-        ensures { result ≡ mark_in (line-fields self.now) k }
+        ensures { result ≡ mark_in (line_fields self.now) k }
     {
         match self.field(k) {
             [b'v'] => Ok(true),
@@ -112,7 +112,7 @@ impl<'a> Line<'a> {
 
     // The names of a list.
     pub fn list(&self, k: u8) -> Result<Pieces<'a>, FieldFault>
-        ensures { answered pieces_left result ≡ list_in (line-fields self.now) k }
+        ensures { answered pieces_left result ≡ list_in (line_fields self.now) k }
     {
         let names = names_of(self.field(k));
         if !names.all_names() {
@@ -126,7 +126,7 @@ impl<'a> Line<'a> {
 
     // The names of a list of so many at most.
     pub fn short_list(&self, k: u8, most: usize) -> Result<Pieces<'a>, FieldFault>
-        ensures { answered pieces_left result ≡ short_list_in (line-fields self.now) k most }
+        ensures { answered pieces_left result ≡ short_list_in (line_fields self.now) k most }
     {
         let names = self.list(k)?;
         if names.count() > most {

@@ -1,6 +1,6 @@
 -- what a line reads as in the tables, and what it does to them
 use Rattle.std.specs.Prelude.{◌≡◌, ℕ, true, List, Ok, Err, Result}
-use Rattle.fields.specs.Held.{line-fields}
+use Rattle.fields.specs.Held.{line_fields}
 use Rattle.fields.specs.Text.{Bytes}
 use Rattle.fields.specs.declared.line.Line.{Line}
 use Rattle.theory.specs.declared.Subtask.{Subtask}
@@ -22,7 +22,7 @@ abbrev pub Reading : Type 0
 Reading = plain-tables.Tables → List Bytes → plain.Check plain-tables.Tables
 
 abbrev pub TookLine : Result (Unit {0}) DomainFault → Tables → Tables → Reading → Line → Type 0
-TookLine r old new reads l = Took r old new (reads (meant old) (line-fields l))
+TookLine r old new reads l = Took r old new (reads (meant old) (line_fields l))
 
 -- a line of this kind
 abbrev pub Declares : Result (Unit {0}) DomainFault → Tables → Tables → Kind → Line → Type 0
@@ -30,22 +30,22 @@ Declares r old new kind l = TookLine r old new (declared kind) l
 
 module _ (t : Tables) (l : Line) (k : ℕ) where
   abbrev pub new_fact : plain.Check Bytes
-  new_fact = plain.new_name (plain-tables.fact_of (meant t)) (line-fields l) k
+  new_fact = plain.new_name (plain-tables.fact_of (meant t)) (line_fields l) k
 
   abbrev pub new_symbol : plain.Check Bytes
-  new_symbol = plain.new_name (plain-tables.symbol_of (meant t)) (line-fields l) k
+  new_symbol = plain.new_name (plain-tables.symbol_of (meant t)) (line_fields l) k
 
   abbrev pub old_fact : plain.Check ℕ
-  old_fact = plain.old_name (plain-tables.fact_of (meant t)) (line-fields l) k
+  old_fact = plain.old_name (plain-tables.fact_of (meant t)) (line_fields l) k
 
   abbrev pub old_task : plain.Check ℕ
-  old_task = plain.old_name (plain-tables.task_of (meant t)) (line-fields l) k
+  old_task = plain.old_name (plain-tables.task_of (meant t)) (line_fields l) k
 
   abbrev pub fact_set : plain.Check ℕ
-  fact_set = plain.fact_set (meant t) (line-fields l) k
+  fact_set = plain.fact_set (meant t) (line_fields l) k
 
   abbrev pub subtask_list : plain.Check (List Subtask)
-  subtask_list = plain.subtask_list (meant t) (line-fields l) k
+  subtask_list = plain.subtask_list (meant t) (line_fields l) k
 
 abbrev pub arity : Tables → ℕ
 arity t = plain.arity (meant t)

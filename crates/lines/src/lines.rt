@@ -3,7 +3,7 @@ ghost use Rattle.fields.specs.Held.{name_text, answered};
 ghost use Rattle.theory.specs.declared.Constraint.TheVariants.{Before, After};
 ghost use Rattle.reading.specs.Lines as plain;
 ghost use Rattle.reading.specs.Tables.{empty, fact_of, symbol_of};
-ghost use Rattle.tables.specs.Held.{few-items, action_entry, task_entry, method_entry};
+ghost use Rattle.tables.specs.Held.{few_items, action_entry, task_entry, method_entry};
 ghost use Rattle.lines.specs.Closes.{meant, closes};
 ghost use Rattle.lines.specs.Took.{Took, TookLine, new_fact, new_symbol, old_fact, old_task, fact_set, subtask_list, arity};
 ghost use Rattle.lines.specs.Entries.{action_in, task_in, method_in, rules_for, position_in, between_in, with_subtask};
@@ -102,7 +102,7 @@ impl Tables {
 
     // The subtasks that a field lists.
     fn subtask_list(&self, line: &Line, k: u8) -> Result<Few<Subtask>, DomainFault>
-        ensures { answered few-items result ≡ subtask_list self.now line.now k }
+        ensures { answered few_items result ≡ subtask_list self.now line.now k }
     {
         let mut names = line.short_list(k, 4)?;
         let mut subtasks = Few::Zero;
@@ -309,7 +309,7 @@ impl Tables {
 
 // The list with one subtask more, where there is room.
 fn with_subtask(subtasks: Few<Subtask>, s: Subtask) -> Few<Subtask>
-    ensures { few-items result ≡ with_subtask (few-items subtasks) s }
+    ensures { few_items result ≡ with_subtask (few_items subtasks) s }
 {
     subtasks.with(s).unwrap_or(subtasks)
 }

@@ -11,12 +11,12 @@ use Rattle.tables.specs.declared.entries.Action.{Action}
 use Rattle.tables.specs.declared.entries.Task.{Task}
 use Rattle.tables.specs.declared.entries.Method.{Method}
 
-abbrev pub few-items : {T : Type 0} → Few T → List T
-few-items Zero = []
-few-items (One a) = a
-few-items (Two a) = a
-few-items (Three a) = a
-few-items (Four a) = a
+abbrev pub few_items : {T : Type 0} → Few T → List T
+few_items Zero = []
+few_items (One a) = a
+few_items (Two a) = a
+few_items (Three a) = a
+few_items (Four a) = a
 
 -- a list of at most four with one more at its end, where there is room
 abbrev pub grown : {T : Type 0} → List T → T → Option (List T)
@@ -35,7 +35,7 @@ abbrev pub task_entry : Task → TaskEntry
 task_entry t = record { name = name_text t.name; level = t.level; vanish = t.vanishes }
 
 abbrev pub method_entry : Method → model.Method
-method_entry m = record { owner = m.task; price = m.price; grade = m.grade; subtasks = few-items m.subtasks; constraints = few-items m.constraints }
+method_entry m = record { owner = m.task; price = m.price; grade = m.grade; subtasks = few_items m.subtasks; constraints = few_items m.constraints }
 
 abbrev pub task_ranks : List Task → List model.Task
 task_ranks ts = map rank (map task_entry ts)

@@ -1,6 +1,6 @@
 ghost use Rattle.std.specs.Prelude.{◌≡◌};
 ghost use Rattle.std.specs.Option.{option_map};
-ghost use Rattle.tables.specs.Held.{few-items, grown};
+ghost use Rattle.tables.specs.Held.{few_items, grown};
 
 // A list of at most four, by how many there are.
 #[derive(Clone, Copy)]
@@ -14,7 +14,7 @@ pub enum Few<T> {
 
 impl<T: Copy> Few<T> {
     pub fn as_slice(&self) -> &[T]
-        ensures { result.now ≡ few-items self.now }
+        ensures { result.now ≡ few_items self.now }
     {
         match self {
             Few::Zero => &[],
@@ -27,7 +27,7 @@ impl<T: Copy> Few<T> {
 
     // The list with x at its end, where there is room.
     pub fn with(self, x: T) -> Option<Few<T>>
-        ensures { option_map few-items result ≡ grown (few-items self) x }
+        ensures { option_map few_items result ≡ grown (few_items self) x }
     {
         match self {
             Few::Zero => Some(Few::One([x])),

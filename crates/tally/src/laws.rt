@@ -7,7 +7,7 @@ use crate::pairs::Pair;
 
 // Sums and products over lists, for every tally: over two lists one after the other, and with a factor on either side.
 pub fn sums_hold<T: Tally>(_tally: &T) -> u8
-    ensures { Sums algebra }
+    ensures { Sums T.algebra }
 {
     0
 }

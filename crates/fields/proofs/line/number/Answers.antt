@@ -30,5 +30,5 @@ pub returns : goal.returns
 returns c =
     let z : not (eqb (get_or c.args.text.now 0 0) 48 && ltb 1 (length c.args.text.now)) ≡ true =
     elim c.else-text-eq48.either [ inl p ↦ not_from_false _ (and_right _ _ (le-ltb 1 _ p.1)) | inr p ↦ not_from_false _ (and_left _ _ (ne_eqb _ 48 p)) ] in
-    is_number c.args.text.now c.loop-d.n (omega (arith, eqb-false (length c.args.text.now) 0 (sym c.is-empty.ensures ∙ c.if-is-empty.false))) c.if-text-gt6.false z (all_end digit c.args.text.now c.loop-d.d-index c.loop-d-test.false c.loop-d.invariant.1)
+    is_number c.args.text.now c.loop-d.n (omega (arith, eqb-false (length c.args.text.now) 0 (sym c.is_empty.ensures ∙ c.if-is_empty.false))) c.if-text-gt6.false z (all_end digit c.args.text.now c.loop-d.d-index c.loop-d-test.false c.loop-d.invariant.1)
     (sym (at_drop_all (value c.loop-d.n) c.args.text.now c.loop-d.d-index c.loop-d-test.false) ∙ c.loop-d.invariant.0)

@@ -11,8 +11,8 @@ loop-a-init c = refl
 pub loop-a-preserved : goal.loop-a-preserved
 loop-a-preserved c =
     rows_more action_entry c.actions-action-items.result.now (domain_tables c.args.domain.now).actions c.actions-action-items.ensures c.loop-a.a (action_row (domain_tables c.args.domain.now))
-    (string_bytes c.loop-a.out) (string_bytes c.push-row.new.out) (string_bytes c.in-ok-action-row.field-0) c.action-item.result c.loop-a.invariant c.loop-a-test.true c.action-item.is
-    c.in-ok-push-row.ensures c.in-ok-action-row.ensures
+    (string_bytes c.loop-a.out) (string_bytes c.push_row.new.out) (string_bytes c.in_ok-action_row.field-0) c.action-item.result c.loop-a.invariant c.loop-a-test.true c.action-item.is
+    c.in_ok-push_row.ensures c.in_ok-action_row.ensures
 
 pub returns : goal.returns
 returns c =

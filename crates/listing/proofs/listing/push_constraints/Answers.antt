@@ -13,8 +13,8 @@ loop-c-preserved c =
     let rows = constraint_texts c.args.domain.now c.args.m in
     let xs = c.args.cs.now in
     let i = c.loop-c.c-index in
-    onward (string_bytes c.loop-c.out) (string_bytes c.in-ok-constraint-row.field-0) (rows (drop i xs)) (string_bytes c.push-row.new.out) (rows (drop (i + 1) xs))
-    c.in-ok-push-row.ensures (at_drop_more rows xs i _ c.loop-c-test.true ∙ ap (λ (b : Bytes). b ++ rows (drop (i + 1) xs)) (sym c.in-ok-constraint-row.ensures)) c.loop-c.invariant
+    onward (string_bytes c.loop-c.out) (string_bytes c.in_ok-constraint_row.field-0) (rows (drop i xs)) (string_bytes c.push_row.new.out) (rows (drop (i + 1) xs))
+    c.in_ok-push_row.ensures (at_drop_more rows xs i _ c.loop-c-test.true ∙ ap (λ (b : Bytes). b ++ rows (drop (i + 1) xs)) (sym c.in_ok-constraint_row.ensures)) c.loop-c.invariant
 
 pub returns : goal.returns
 returns c =

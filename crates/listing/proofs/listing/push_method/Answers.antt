@@ -7,5 +7,5 @@ use Rattle.listing.proofs.listing.push_method.Goals as goal
 pub returns : goal.returns
 returns c =
     let d = c.args.domain.now in
-    pushes c.push-constraints.result c.args.out.now c.push-row.new.out c.push-constraints.new.out (method_text d c.args.m c.args.method.now) _ _
-    (c.in-ok-push-row.ensures ∙ ap (λ (b : Bytes). string_bytes c.args.out.now ++ b) c.in-ok-method-row.ensures) (ap (constraint_texts d c.args.m) c.as-slice.ensures) c.push-constraints.ensures
+    pushes c.push_constraints.result c.args.out.now c.push_row.new.out c.push_constraints.new.out (method_text d c.args.m c.args.method.now) _ _
+    (c.in_ok-push_row.ensures ∙ ap (λ (b : Bytes). string_bytes c.args.out.now ++ b) c.in_ok-method_row.ensures) (ap (constraint_texts d c.args.m) c.as_slice.ensures) c.push_constraints.ensures

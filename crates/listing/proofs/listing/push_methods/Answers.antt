@@ -12,8 +12,8 @@ loop-m-init c = refl
 pub loop-m-preserved : goal.loop-m-preserved
 loop-m-preserved c =
     rows_more method_entry c.methods-method-items.result.now (domain_tables c.args.domain.now).methods c.methods-method-items.ensures c.loop-m.m (method_rows (domain_tables c.args.domain.now))
-    (string_bytes c.loop-m.out) (string_bytes c.push-method.new.out) _ (get_or c.methods-method-items.result.now c.loop-m.m _) c.loop-m.invariant c.loop-m-test.true (get_or_default c.methods-method-items.result.now c.loop-m.m _ _ c.loop-m-test.true)
-    c.in-ok-push-method.ensures refl
+    (string_bytes c.loop-m.out) (string_bytes c.push_method.new.out) _ (get_or c.methods-method-items.result.now c.loop-m.m _) c.loop-m.invariant c.loop-m-test.true (get_or_default c.methods-method-items.result.now c.loop-m.m _ _ c.loop-m-test.true)
+    c.in_ok-push_method.ensures refl
 
 pub returns : goal.returns
 returns c =

@@ -11,8 +11,8 @@ loop-t-init c = refl
 pub loop-t-preserved : goal.loop-t-preserved
 loop-t-preserved c =
     rows_more task_entry c.tasks-task-items.result.now (domain_tables c.args.domain.now).tasks c.tasks-task-items.ensures c.loop-t.t task_row
-    (string_bytes c.loop-t.out) (string_bytes c.push-row.new.out) (string_bytes c.in-ok-task-row.field-0) c.task-item.result c.loop-t.invariant c.loop-t-test.true c.task-item.is
-    c.in-ok-push-row.ensures c.in-ok-task-row.ensures
+    (string_bytes c.loop-t.out) (string_bytes c.push_row.new.out) (string_bytes c.in_ok-task_row.field-0) c.task-item.result c.loop-t.invariant c.loop-t-test.true c.task-item.is
+    c.in_ok-push_row.ensures c.in_ok-task_row.ensures
 
 pub returns : goal.returns
 returns c =

@@ -7,7 +7,7 @@ use Rattle.listing.specs.Names.{separated, continued}
 use Rattle.listing.proofs.Entries.{left-none, chosen-take, chosen_skip}
 use Rattle.listing.proofs.Steps.{onward, makes, continued-more}
 use Rattle.listing.proofs.names.fact_list.Goals as goal
-use Rattle.listing.proofs.names.fact_list.Goals.{then-rest-eq1+in-ok-push-name, else-rest-eq1}
+use Rattle.listing.proofs.names.fact_list.Goals.{then-rest-eq1+in_ok-push_name, else-rest-eq1}
 
 pub loop-name-init : goal.loop-name-init
 loop-name-init c = ap (λ (b : Bytes). b ++ continued true (chosen c.args.set (domain_tables c.args.domain.now).facts)) c.new-list.ensures.bytes
@@ -23,13 +23,13 @@ loop-name-preserved c =
     let none = c.loop-name.none in
     let rest = chosen (set / 2) (drop (i + 1) ys) in
     elim c.if-rest-eq1.branch [
-      | then-rest-eq1+in-ok-push-name w ↦
-          let name = w.as-str.result.now in
+      | then-rest-eq1+in_ok-push_name w ↦
+          let name = w.as_str.result.now in
           ap (λ (b : Bool). string_bytes c.if-rest-eq1.list ++ continued b rest) w.none-is
           ∙ onward text (separated none name) (continued none (chosen set (drop i ys))) (string_bytes c.if-rest-eq1.list) (continued false rest)
-          (ap (λ s. string_bytes s) w.list-is ∙ w.in-ok-push-name.ensures)
+          (ap (λ s. string_bytes s) w.list-is ∙ w.in_ok-push_name.ensures)
           (ap (continued none) (chosen-take name_text xs ys c.facts-name-items.ensures i set x c.loop-name-test.true c.name-item.is w.if-rest-eq1.true)
-          ∙ continued-more none (name_text x) rest ∙ ap (λ (n : Bytes). separated none n ++ continued false rest) (sym w.as-str.ensures))
+          ∙ continued-more none (name_text x) rest ∙ ap (λ (n : Bytes). separated none n ++ continued false rest) (sym w.as_str.ensures))
           c.loop-name.invariant
       | else-rest-eq1 w ↦
           ap (λ (b : Bool). string_bytes c.if-rest-eq1.list ++ continued b rest) w.none-is
@@ -42,7 +42,7 @@ pub returns : goal.returns
 returns c =
     let ys = (domain_tables c.args.domain.now).facts in
     let text = string_bytes c.loop-name.list in
-    makes c.or-hyphen.result
+    makes c.or_hyphen.result
     (sym (left-none name_text c.facts-name-items.result.now ys c.facts-name-items.ensures c.loop-name.name-index (λ (ns : List Bytes). text ++ continued c.loop-name.none (chosen c.loop-name.rest ns)) c.loop-name-test.false)
     ∙ c.loop-name.invariant)
-    c.or-hyphen.ensures
+    c.or_hyphen.ensures

@@ -8,5 +8,5 @@ returns c =
     let name = c.args.name.now in
     let old = string_bytes c.args.list.now in
     let mid = string_bytes c.push.new.self in
-    pushed c.push-str-2.result (string_bytes c.push-str-2.new.self) (mid ++ name) mid (old ++ separated c.args.none name) c.push-str-2.ensures.bytes
-    (with_comma old mid name c.args.none c.in-ok-push.ensures.bytes c.if-none.false)
+    pushed c.push_str-2.result (string_bytes c.push_str-2.new.self) (mid ++ name) mid (old ++ separated c.args.none name) c.push_str-2.ensures.bytes
+    (with_comma old mid name c.args.none c.in_ok-push.ensures.bytes c.if-none.false)

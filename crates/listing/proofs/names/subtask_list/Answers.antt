@@ -18,17 +18,17 @@ loop-subtask-preserved c =
     let i = c.loop-subtask.subtask-index in
     let none = c.loop-subtask.none in
     let rest = subtask_names t (drop (i + 1) xs) in
-    onward (string_bytes c.loop-subtask.list) (separated none c.subtask-name.result.now) (continued none (subtask_names t (drop i xs))) (string_bytes c.push-name.new.list) (continued false rest)
-    c.in-ok-push-name.ensures
+    onward (string_bytes c.loop-subtask.list) (separated none c.subtask_name.result.now) (continued none (subtask_names t (drop i xs))) (string_bytes c.push_name.new.list) (continued false rest)
+    c.in_ok-push_name.ensures
     (at_drop_more (λ (ss : List Subtask). continued none (subtask_names t ss)) xs i _ c.loop-subtask-test.true
-    ∙ continued-more none _ rest ∙ ap (λ (n : Bytes). separated none n ++ continued false rest) (sym c.subtask-name.ensures))
+    ∙ continued-more none _ rest ∙ ap (λ (n : Bytes). separated none n ++ continued false rest) (sym c.subtask_name.ensures))
     c.loop-subtask.invariant
 
 pub returns : goal.returns
 returns c =
     let t = domain_tables c.args.domain.now in
     let text = string_bytes c.loop-subtask.list in
-    makes c.or-hyphen.result
+    makes c.or_hyphen.result
     (sym (at_drop_all (λ (ss : List Subtask). text ++ continued c.loop-subtask.none (subtask_names t ss)) c.args.subtasks.now c.loop-subtask.subtask-index c.loop-subtask-test.false)
     ∙ c.loop-subtask.invariant)
-    c.or-hyphen.ensures
+    c.or_hyphen.ensures

@@ -9,7 +9,7 @@ use Rattle.listing.proofs.names.subtask_name.Goals as goal
 
 pub returns-in-Some : goal.returns-in-Some
 returns-in-Some c =
-    c.as-str.ensures
+    c.as_str.ensures
     ∙ field_at action_entry c.actions.result.now _ c.actions.ensures c.in-Primitive.a (λ (a : ActionEntry). a.name) [] c.in-Some.action.now (true-ltb _ _ c.in-Some.ensures.lookup.0) c.in-Some.ensures.lookup.1
     ∙ sym (ap (subtask_name (domain_tables c.args.domain.now)) c.in-Primitive.is)
 
@@ -20,7 +20,7 @@ returns-in-None c =
 
 pub returns-in-Some-get : goal.returns-in-Some-get
 returns-in-Some-get c =
-    c.as-str-in-Some-get.ensures
+    c.as_str-in-Some-get.ensures
     ∙ field_at task_entry c.tasks.result.now _ c.tasks.ensures c.in-Compound.t (λ (t : TaskEntry). t.name) [] c.in-Some-get.task.now (true-ltb _ _ c.in-Some-get.ensures.lookup.0) c.in-Some-get.ensures.lookup.1
     ∙ sym (ap (subtask_name (domain_tables c.args.domain.now)) c.in-Compound.is)
 

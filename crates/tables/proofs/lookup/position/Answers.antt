@@ -17,7 +17,7 @@ returns-then-eq g c =
     let k : c.loop-i.i < length c.args.items.now = c.loop-i-test.true in
     record {
       hit = λ _. sym (index_hit c.args.name.now (map f c.args.items.now) c.loop-i.i c.loop-i.invariant (omega (arith, map-length f c.args.items.now))
-          (e ∙ sym c.name.ensures ∙ sym c.as-bytes.ensures ∙ m));
+          (e ∙ sym c.name.ensures ∙ sym c.as_bytes.ensures ∙ m));
       miss = λ h. absurd (omega arith);
     }
 
@@ -27,7 +27,7 @@ loop-i-preserved g c =
     let e = map_at f [] c.args.items.now c.loop-i.i c.index-items-i.result c.loop-i-test.true c.index-items-i.is in
     let m = (slice_eq-Decides Decides-eqb _ _ _ c.eq.ensures).1 in
     index_miss c.args.name.now (map f c.args.items.now) c.loop-i.i c.loop-i.invariant (omega (arith, map-length f c.args.items.now))
-    (λ q. false≢true (sym c.if-eq.false ∙ m (c.as-bytes.ensures ∙ c.name.ensures ∙ sym e ∙ q)))
+    (λ q. false≢true (sym c.if-eq.false ∙ m (c.as_bytes.ensures ∙ c.name.ensures ∙ sym e ∙ q)))
 
 pub returns : goal.returns
 returns g c =

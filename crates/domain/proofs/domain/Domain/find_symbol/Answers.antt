@@ -10,4 +10,4 @@ returns c =
     let n : Bytes = c.args.name.now in
     let a = sym (map-map (λ (e : ActionEntry). e.name) action_entry c.actions.result.now) ∙ ap (map (λ (e : ActionEntry). e.name)) c.actions.ensures in
     let t = sym (map-map (λ (e : TaskEntry). e.name) task_entry c.tasks.result.now) ∙ ap (map (λ (e : TaskEntry). e.name)) c.tasks.ensures in
-    c.find-symbol.ensures ∙ ap₂ (λ (x y : List Bytes). or_task (index_of n x) (index_of n y)) a t
+    c.find_symbol.ensures ∙ ap₂ (λ (x y : List Bytes). or_task (index_of n x) (index_of n y)) a t

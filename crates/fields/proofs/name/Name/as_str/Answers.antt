@@ -7,5 +7,5 @@ use Rattle.fields.proofs.name.Name.as_str.Goals as goal
 
 pub returns-in-Err : goal.returns-in-Err
 returns-in-Err c =
-    absurd (c.in-Err.ensures.cases.0 (name_utf8 c.as-bytes.result.now (ap name_form c.as-bytes.ensures
+    absurd (c.in-Err.ensures.cases.0 (name_utf8 c.as_bytes.result.now (ap name_form c.as_bytes.ensures
     ∙ (and_parts (leb c.args.self.now.len 16) (name_form (name_text c.args.self.now)) c.args.self.now.ok).1)))

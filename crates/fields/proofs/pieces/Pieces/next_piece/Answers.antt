@@ -9,9 +9,9 @@ pub returns : goal.returns
 returns c =
     let s : ℕ = c.args.self.now.separator in
     let l : Bytes = c.args.self.now.rest.now in
-    let n : ℕ = c.head-len-n.result in
+    let n : ℕ = c.head_len-n.result in
     let m = ap (λ (b : Bool). cond b (parted s l) []) c.if-not-self.false in
     elim c.if-n-text.branch [
-      | then-n-text w ↦ m ∙ cut_more s l n c.head-len-n.ensures.value w.if-n-text.true ∙ ap (λ (z : List Bytes). take (n - 0) l ∷ z) (sym (ap pieces_left w.self-is ∙ ap (λ (b : Bool). cond b (parted s (take (length l - (n + 1)) (drop (n + 1) l))) []) c.if-not-self.false))
-      | else-n-text w ↦ m ∙ cut_last s l n c.head-len-n.ensures.value w.if-n-text.false ∙ ap (λ (z : List Bytes). take (n - 0) l ∷ z) (sym (ap pieces_left w.self-is))
+      | then-n-text w ↦ m ∙ cut_more s l n c.head_len-n.ensures.value w.if-n-text.true ∙ ap (λ (z : List Bytes). take (n - 0) l ∷ z) (sym (ap pieces_left w.self-is ∙ ap (λ (b : Bool). cond b (parted s (take (length l - (n + 1)) (drop (n + 1) l))) []) c.if-not-self.false))
+      | else-n-text w ↦ m ∙ cut_last s l n c.head_len-n.ensures.value w.if-n-text.false ∙ ap (λ (z : List Bytes). take (n - 0) l ∷ z) (sym (ap pieces_left w.self-is))
     ]

@@ -1,25 +1,25 @@
-use Rattle.fields.specs.Held.{line-fields}
+use Rattle.fields.specs.Held.{line_fields}
 use Rattle.reading.specs.declared.kinds.Kind.TheVariants.{Fact, Action, Task, Method, Before, After, Between}
 use Rattle.lines.proofs.Closing.{took_closed}
 use Rattle.lines.proofs.lawful.LawfulTables.declare.Goals as goal
 
-pub invariant-of-self : goal.invariant-of-self
-invariant-of-self c = (took_closed Fact (line-fields c.args.line.now) _ c.args.self.now.tables _ c.args.self.now.ok c.fact-line.ensures, tt)
+pub invariant_of-self : goal.invariant_of-self
+invariant_of-self c = (took_closed Fact (line_fields c.args.line.now) _ c.args.self.now.tables _ c.args.self.now.ok c.fact_line.ensures, tt)
 
-pub invariant-of-self-in-Action : goal.invariant-of-self-in-Action
-invariant-of-self-in-Action c = (took_closed Action (line-fields c.args.line.now) _ c.args.self.now.tables _ c.args.self.now.ok c.action_line_lem.ensures, tt)
+pub invariant_of-self-in-Action : goal.invariant_of-self-in-Action
+invariant_of-self-in-Action c = (took_closed Action (line_fields c.args.line.now) _ c.args.self.now.tables _ c.args.self.now.ok c.action_line_lem.ensures, tt)
 
-pub invariant-of-self-in-Task : goal.invariant-of-self-in-Task
-invariant-of-self-in-Task c = (took_closed Task (line-fields c.args.line.now) _ c.args.self.now.tables _ c.args.self.now.ok c.task_line_lem.ensures, tt)
+pub invariant_of-self-in-Task : goal.invariant_of-self-in-Task
+invariant_of-self-in-Task c = (took_closed Task (line_fields c.args.line.now) _ c.args.self.now.tables _ c.args.self.now.ok c.task_line_lem.ensures, tt)
 
-pub invariant-of-self-in-Method : goal.invariant-of-self-in-Method
-invariant-of-self-in-Method c = (took_closed Method (line-fields c.args.line.now) _ c.args.self.now.tables _ c.args.self.now.ok c.method-line.ensures, tt)
+pub invariant_of-self-in-Method : goal.invariant_of-self-in-Method
+invariant_of-self-in-Method c = (took_closed Method (line_fields c.args.line.now) _ c.args.self.now.tables _ c.args.self.now.ok c.method_line.ensures, tt)
 
-pub invariant-of-self-in-Before : goal.invariant-of-self-in-Before
-invariant-of-self-in-Before c = (took_closed Before (line-fields c.args.line.now) _ c.args.self.now.tables _ c.args.self.now.ok c.before-line.ensures, tt)
+pub invariant_of-self-in-Before : goal.invariant_of-self-in-Before
+invariant_of-self-in-Before c = (took_closed Before (line_fields c.args.line.now) _ c.args.self.now.tables _ c.args.self.now.ok c.before_line.ensures, tt)
 
-pub invariant-of-self-in-After : goal.invariant-of-self-in-After
-invariant-of-self-in-After c = (took_closed After (line-fields c.args.line.now) _ c.args.self.now.tables _ c.args.self.now.ok c.after-line.ensures, tt)
+pub invariant_of-self-in-After : goal.invariant_of-self-in-After
+invariant_of-self-in-After c = (took_closed After (line_fields c.args.line.now) _ c.args.self.now.tables _ c.args.self.now.ok c.after_line.ensures, tt)
 
-pub invariant-of-self-in-Between : goal.invariant-of-self-in-Between
-invariant-of-self-in-Between c = (took_closed Between (line-fields c.args.line.now) _ c.args.self.now.tables _ c.args.self.now.ok c.between-line.ensures, tt)
+pub invariant_of-self-in-Between : goal.invariant_of-self-in-Between
+invariant_of-self-in-Between c = (took_closed Between (line_fields c.args.line.now) _ c.args.self.now.tables _ c.args.self.now.ok c.between_line.ensures, tt)

@@ -1,5 +1,5 @@
 use Rattle.std.proofs.Common.{◌≡◌, length}
-use Rattle.fields.specs.Held.{line-fields, pieces_left}
+use Rattle.fields.specs.Held.{line_fields, pieces_left}
 use Rattle.reading.specs.Lines.{fact_set, taking, with_fact}
 use Rattle.reading.specs.Tables.{fact_of}
 use Rattle.reading.specs.declared.faults.DomainFault.TheVariants.{Undeclared}
@@ -8,7 +8,7 @@ use Rattle.lines.proofs.tables.Tables.fact_set.Given as goal
 
 abbrev pub invariant-loop-name : goal.invariant-loop-name
 invariant-loop-name l =
-    fact_set (meant l.self) (line-fields l.line) l.k ≡ taking with_fact (fact_of (meant l.self)) (Undeclared l.k) l.set (pieces_left l.names)
+    fact_set (meant l.self) (line_fields l.line) l.k ≡ taking with_fact (fact_of (meant l.self)) (Undeclared l.k) l.set (pieces_left l.names)
 
 abbrev pub decreases-loop-name : goal.decreases-loop-name
 decreases-loop-name l = length (pieces_left l.names)

@@ -21,5 +21,5 @@ found-or None e = refl
 
 pub returns : goal.returns
 returns c =
-    let f = sym (ap₂ (λ (m : Bytes) (l : List Bytes). index_of m l) c.as-bytes.ensures (names _ _ c.as-slice.ensures.value)) ∙ sym c.find.ensures in
-    sym (step _ (ap field (sym c.in-ok-name.ensures)) (ap (λ (o : Option ℕ). found o (Undeclared c.args.k)) f ∙ found-or _ _ ∙ sym c.ok-or.ensures.value))
+    let f = sym (ap₂ (λ (m : Bytes) (l : List Bytes). index_of m l) c.as_bytes.ensures (names _ _ c.as_slice.ensures.value)) ∙ sym c.find.ensures in
+    sym (step _ (ap field (sym c.in_ok-name.ensures)) (ap (λ (o : Option ℕ). found o (Undeclared c.args.k)) f ∙ found-or _ _ ∙ sym c.ok_or.ensures.value))
