@@ -7,7 +7,7 @@ use theory::Subtask;
 
 // The number of the first that has this name.
 pub fn find<T: Named>(items: &[T], name: &[u8]) -> Option<usize>
-    ensures { result ≡ index_of name.now (map text items.now) }
+    ensures { result ≡ index_of name.now (map T.text items.now) }
 {
     let i = position(items, name);
     if i < items.len() { Some(i) } else { None }
@@ -15,7 +15,7 @@ pub fn find<T: Named>(items: &[T], name: &[u8]) -> Option<usize>
 
 // The place of the first that has this name, or how many there are.
 fn position<T: Named>(items: &[T], name: &[u8]) -> usize
-    ensures { Place (index_of name.now (map text items.now)) (length items.now) result }
+    ensures { Place (index_of name.now (map T.text items.now)) (length items.now) result }
 {
     for (i, item) in items.iter().enumerate() {
         if item.name().as_bytes() == name {

@@ -5,7 +5,7 @@ use tally::{Pair, Tally};
 
 // The sum of the values in their order.
 pub(crate) fn sum<T: Tally>(tally: &T, values: &[T::Value]) -> T::Value
-    ensures { means result ≡ sum_of algebra means values.now }
+    ensures { T.means result ≡ sum_of T.algebra T.means values.now }
 {
     let mut all = tally.zero();
     for x in values {
@@ -16,7 +16,7 @@ pub(crate) fn sum<T: Tally>(tally: &T, values: &[T::Value]) -> T::Value
 
 // The product of the values in their order.
 pub(crate) fn product<T: Tally>(tally: &T, values: &[T::Value]) -> T::Value
-    ensures { means result ≡ product_of algebra means values.now }
+    ensures { T.means result ≡ product_of T.algebra T.means values.now }
 {
     let mut all = tally.one();
     for x in values {
@@ -27,28 +27,28 @@ pub(crate) fn product<T: Tally>(tally: &T, values: &[T::Value]) -> T::Value
 
 // The sum of two lists, one after the other, by their sums.
 pub(crate) fn joint_sum<T: Tally>(tally: &T, xs: &[T::Value], ys: &[T::Value]) -> T::Value
-    ensures { means result ≡ sum_of algebra means (xs.now ++ ys.now) }
+    ensures { T.means result ≡ sum_of T.algebra T.means (xs.now ++ ys.now) }
 {
     tally.plus(sum(tally, xs), sum(tally, ys))
 }
 
 // The product of two lists, one after the other, by their products.
 pub(crate) fn joint_product<T: Tally>(tally: &T, xs: &[T::Value], ys: &[T::Value]) -> T::Value
-    ensures { means result ≡ product_of algebra means (xs.now ++ ys.now) }
+    ensures { T.means result ≡ product_of T.algebra T.means (xs.now ++ ys.now) }
 {
     tally.times(product(tally, xs), product(tally, ys))
 }
 
 // The sum of x times each value, by one multiplication.
 pub(crate) fn scaled<T: Tally>(tally: &T, x: T::Value, values: &[T::Value]) -> T::Value
-    ensures { means result ≡ sum_of algebra (λ v. algebra.times (means x) (means v)) values.now }
+    ensures { T.means result ≡ sum_of T.algebra (λ v. T.algebra.times (T.means x) (T.means v)) values.now }
 {
     tally.times(x, sum(tally, values))
 }
 
 // The sum of each value times x, by one multiplication.
 pub(crate) fn scaled_right<T: Tally>(tally: &T, values: &[T::Value], x: T::Value) -> T::Value
-    ensures { means result ≡ sum_of algebra (λ v. algebra.times (means v) (means x)) values.now }
+    ensures { T.means result ≡ sum_of T.algebra (λ v. T.algebra.times (T.means v) (T.means x)) values.now }
 {
     tally.times(sum(tally, values), x)
 }
