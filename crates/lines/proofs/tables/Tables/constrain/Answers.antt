@@ -26,7 +26,7 @@ pub returns-in_default : goal.returns-in_default
 returns-in_default c =
     let t = meant c.args.self.now in
     let v = c.args.self.now.methods in
-    let h : length (vec_items v) ≡ 0 = omega (arith, v.ok.0, ltb-false _ _ (sym c.in_default.ensures.finds.0)) in (
+    let h : length (vec_items v) ≡ 0 = omega (arith, c.in_default.ensures.item.3) in (
       pass Full (ap (λ (w : Way). ltb (length w.constraints) 4) (last_none method_entry no_method (vec_items v) h))
           (ap (λ (ms : List Way). Ok (record { facts = t.facts; actions = t.actions; tasks = t.tasks; methods = ms })) (on_none method_entry (constrained c.args.c) (vec_items v) h)),
       closed_roomy c.args.self.now c.requires,
@@ -36,10 +36,10 @@ pub returns-in_default-with : goal.returns-in_default-with
 returns-in_default-with c =
     let t = meant c.args.self.now in
     let v = c.args.self.now.methods in
-    let f = c.in-Some.ensures.finds in
+    let f = c.in-Some.ensures in
     let m : Method = c.in-Some.method.now in (
-      fail Full _ (room-is (vec_items v) (vec_len v) m v.ok.0 (ltb-true _ _ (sym f.0)) f.1.0 ∙ with_none _ _ c.in_default-with.ensures),
-      ap (λ (ms : List Way). record { facts = t.facts; actions = t.actions; tasks = t.tasks; methods = ms }) (set_same method_entry (vec_items v) (vec_len v - 1) m m (ap method_entry f.1.0)),
+      fail Full _ (room-is (vec_items v) (vec_len v) m v.ok.0 (f.variant.0 refl) f.value ∙ with_none _ _ c.in_default-with.ensures),
+      ap (λ (ms : List Way). record { facts = t.facts; actions = t.actions; tasks = t.tasks; methods = ms }) (set_same method_entry (vec_items v) (vec_len v - 1) m m (ap method_entry f.value)),
       closed_roomy c.args.self.now c.requires,
     )
 
@@ -47,14 +47,14 @@ pub returns : goal.returns
 returns c =
     let t = meant c.args.self.now in
     let v = c.args.self.now.methods in
-    let f = c.in-Some.ensures.finds in
+    let f = c.in-Some.ensures in
     let m : Method = c.in-Some.method.now in
     let w = with_some _ _ (few_items c.in-Some-with.more) c.in-Some-with.ensures in
-    let h : length (vec_items v) ≡ suc (vec_len v - 1) = omega (arith, v.ok.0, ltb-true _ _ (sym f.0)) in (
-      pass Full (room-is (vec_items v) (vec_len v) m v.ok.0 (ltb-true _ _ (sym f.0)) f.1.0 ∙ w.1)
+    let h : length (vec_items v) ≡ suc (vec_len v - 1) = omega (arith, v.ok.0, f.variant.0 refl) in (
+      pass Full (room-is (vec_items v) (vec_len v) m v.ok.0 (f.variant.0 refl) f.value ∙ w.1)
           (ap (λ (ms : List Way). Ok (record { facts = t.facts; actions = t.actions; tasks = t.tasks; methods = ms }))
           (sym (set_last method_entry (constrained c.args.c) (vec_items v) (vec_len v - 1) _ m h
           (ap (λ (l : List Constraint). record { owner = m.task; price = m.price; grade = m.grade; subtasks = few_items m.subtasks; constraints = l }) w.0
-          ∙ ap (λ (x : Method). constrained c.args.c (method_entry x)) f.1.0)))),
+          ∙ ap (λ (x : Method). constrained c.args.c (method_entry x)) f.value)))),
       closed_roomy c.args.self.now c.requires,
     )
