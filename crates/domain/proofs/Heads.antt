@@ -1,5 +1,5 @@
 -- the head of a line, from what its parts answer
-use Rattle.std.proofs.Common.{◌≡◌, ℕ, ◌≤◌, Bool, true, false, cond, ◌&&◌, T, eqb, leb, List, [], ◌∷◌, length, take, Some, None, Ok, Err, Option, Result, sym, refl, ap, ◌∙◌, ap₂, arith, eqb→eq, take_all}
+use Rattle.std.proofs.Common.{◌≡◌, ℕ, ◌≤◌, Bool, true, false, cond, ◌&&◌, eqb, leb, List, [], ◌∷◌, length, take, Some, None, Ok, Err, Option, Result, sym, refl, ap, ◌∙◌, ap₂, arith, eqb→eq, take_all}
 use Rattle.std.specs.Option.{ok_or}
 use Rattle.fields.specs.Text.{Bytes, fields, at}
 use Rattle.fields.specs.declared.faults.LineFault.{LineFault}

@@ -1,5 +1,5 @@
 -- one step of the reader, from its parts
-use Rattle.std.proofs.Common.{◌≡◌, true, List, is_err, IsErrAnd, Ok, Err, Result, sym, refl, ap, ◌∙◌}
+use Rattle.std.proofs.Common.{◌≡◌, true, List, is_err, IsErrAnd, Ok, Err, Result, sym, ap, ◌∙◌}
 use mathlib.Core.Bool.{false≢true}
 use Rattle.fields.specs.Text.{Bytes, fields}
 use Rattle.reading.specs.Lines.{Check}

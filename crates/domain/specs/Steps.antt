@@ -1,5 +1,5 @@
 -- the parts of one step of the reader
-use Rattle.std.specs.Prelude.{◌≡◌, cond, Some, None, Ok, Err, Option, Result}
+use Rattle.std.specs.Prelude.{◌≡◌, cond, Ok, Err, Result}
 use Rattle.std.specs.Borrow.{Bor}
 use Rattle.std.specs.Option.{ok_or}
 use Rattle.fields.specs.Text.{Bytes}

@@ -1,5 +1,5 @@
 -- what the tables of a domain mean, and the test that every domain passes
-use Rattle.std.specs.Prelude.{◌≡◌, Bool, true, ◌&&◌, map, vec_items, vec_capacity, nat_le}
+use Rattle.std.specs.Prelude.{Bool, ◌&&◌, map, vec_items, vec_capacity, nat_le}
 use Rattle.fields.specs.Held.{name_text}
 use Rattle.reading.specs.Sound.{sound}
 use Rattle.reading.specs.Tables as plain

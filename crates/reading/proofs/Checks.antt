@@ -1,9 +1,7 @@
 -- how a line's description computes, check by check, and what an accepting one has passed
-use Rattle.std.proofs.Common.{◌≡◌, ℕ, Bool, true, false, T, Some, None, Ok, Err, Option, Result, refl, ap, ◌∙◌, arith}
+use Rattle.std.proofs.Common.{◌≡◌, ℕ, Bool, true, false, T, Some, None, Ok, Err, Option, refl, ap, ◌∙◌, arith}
 use Rattle.fields.specs.Read.{Read}
-use Rattle.fields.specs.declared.faults.LineFault.TheVariants.{Field}
 use Rattle.reading.specs.declared.faults.DomainFault.{DomainFault}
-use Rattle.reading.specs.declared.faults.DomainFault.TheVariants.{Line}
 use Rattle.reading.specs.Lines.{Check, ◌>>=◌, ◌>>◌, must, found, field}
 
 pub step : {A B : Type 0} {x : Check A} {a : A} (f : A → Check B) {y : Check B} → x ≡ Ok a → f a ≡ y → (x >>= f) ≡ y

@@ -1,9 +1,7 @@
 -- small texts
-use Rattle.std.specs.Prelude.{◌≡◌, ℕ, List, [], ◌∷◌, codes}
+use Rattle.std.specs.Prelude.{◌≡◌, List, [], ◌∷◌, codes}
 use Rattle.fields.specs.Text.{Bytes, joined, tab}
-use Rattle.fields.specs.declared.faults.LineFault.TheVariants.{Letter}
-use Rattle.reading.specs.declared.faults.DomainFault.TheVariants.{Line, Mark, Ladder}
-use Rattle.reading.specs.declared.kinds.Section.TheVariants.{Closed}
+use Rattle.reading.specs.declared.faults.DomainFault.TheVariants.{Mark, Ladder}
 use Rattle.reading.specs.Tables.{Tables}
 use Rattle.reading.specs.Reading.{start, after_all, refused, fault_at}
 use Rattle.reading.specs.Laws.{ClosesWith}

@@ -1,6 +1,5 @@
 -- the number, the layer and the field that each refusal of a line is reported with
 use Rattle.std.specs.Prelude.{ℕ}
-use Rattle.fields.specs.declared.faults.FieldFault.{FieldFault}
 use Rattle.fields.specs.declared.faults.FieldCause.{FieldCause}
 use Rattle.fields.specs.declared.faults.FieldCause.TheVariants.{Form, Range}
 use Rattle.fields.specs.declared.faults.LineFault.{LineFault}

@@ -1,5 +1,5 @@
 -- what holds over whole texts
-use Rattle.std.specs.Prelude.{◌≡◌, ℕ, ◌+◌, ◌-◌, ◌^◌, min, T, List, [], ◌∷◌, ◌++◌, length, Ok, Err}
+use Rattle.std.specs.Prelude.{◌≡◌, ℕ, ◌+◌, ◌-◌, ◌^◌, min, T, List, [], ◌∷◌, ◌++◌, length, Err}
 use Rattle.fields.specs.Text.{Bytes}
 use Rattle.fields.specs.declared.faults.LineFault.TheVariants.{Letter}
 use Rattle.theory.specs.Lists.{All}

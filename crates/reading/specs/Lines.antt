@@ -8,10 +8,10 @@ use Rattle.theory.specs.Model.{Method, no_method}
 use Rattle.theory.specs.Rules.{keeps_mark, keeps_ladder}
 use Rattle.theory.specs.declared.Subtask.{Subtask}
 use Rattle.theory.specs.declared.Constraint.{Constraint}
-use Rattle.theory.specs.declared.Constraint.TheVariants.{Before, After, Between}
+use Rattle.theory.specs.declared.Constraint.TheVariants.{Between}
 use Rattle.reading.specs.declared.faults.DomainFault.{DomainFault}
 use Rattle.reading.specs.declared.faults.DomainFault.TheVariants.{Line, Declared, Undeclared, Full, Clash, Mark, Ladder}
-use Rattle.reading.specs.Tables.{Tables, ActionEntry, TaskEntry, ranks, fact_of, task_of, symbol_of, add_fact, add_action, add_task, add_method, add_constraint, last_or}
+use Rattle.reading.specs.Tables.{Tables, ranks, fact_of, task_of, symbol_of, add_fact, add_action, add_task, add_method, add_constraint, last_or}
 
 -- what is read, or the first fault
 abbrev pub Check : Type 0 → Type 0

@@ -1,5 +1,5 @@
 -- what the tables of a domain keep, as facts and as a test
-use Rattle.std.specs.Prelude.{◌≡◌, ℕ, ◌^◌, ◌<◌, ◌≤◌, Bool, true, false, ◌&&◌, T, List, length, nat_le, nat_lt}
+use Rattle.std.specs.Prelude.{ℕ, ◌^◌, ◌<◌, ◌≤◌, Bool, ◌&&◌, List, length, nat_le, nat_lt}
 use Rattle.theory.specs.Lists.{All, all}
 use Rattle.theory.specs.Model.{Task, Method, MarkRule, LadderRule}
 use Rattle.theory.specs.Rules.{keeps_mark, keeps_ladder}

@@ -1,5 +1,5 @@
 -- the tables that the lines of a domain fill; each kind is numbered from 0 by its place in its table
-use Rattle.std.specs.Prelude.{ℕ, suc, Bool, true, false, cond, List, [], ◌∷◌, ◌++◌, map, Some, None, Option}
+use Rattle.std.specs.Prelude.{ℕ, suc, Bool, cond, List, [], ◌∷◌, ◌++◌, map, Some, None, Option}
 use Rattle.std.specs.Str.{bytes_eq}
 use Rattle.fields.specs.Text.{Bytes}
 use Rattle.theory.specs.Model.{Task, Method}

@@ -1,5 +1,5 @@
 -- the level and the mark of a task at its place
-use Rattle.std.proofs.Common.{◌≡◌, ℕ, ◌<◌, ◌≤◌, List, map, length, get_or, ap, ◌∙◌, arith}
+use Rattle.std.proofs.Common.{◌≡◌, ℕ, ◌<◌, ◌≤◌, List, map, length, get_or, arith}
 use Rattle.theory.specs.Model.{no_task}
 use Rattle.reading.specs.Tables.{rank}
 use Rattle.tables.specs.Held.{task_entry, task_ranks}

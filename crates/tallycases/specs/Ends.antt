@@ -1,5 +1,4 @@
 -- the algebra of the first tree's ends
-use Rattle.std.specs.Prelude.{ℕ}
 use Rattle.theory.specs.Algebra.{Algebra, Weights}
 use Rattle.tallycases.specs.declared.ends.Ends.{Ends}
 use Rattle.tallycases.specs.declared.ends.Ends.TheVariants.{NoTree, NoMethod, Methods}

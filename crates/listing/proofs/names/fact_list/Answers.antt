@@ -1,4 +1,4 @@
-use Rattle.std.proofs.Common.{◌≡◌, ◌+◌, ◌/◌, Bool, true, false, List, [], ◌∷◌, ◌++◌, drop, string_bytes, sym, refl, ap, ◌∙◌}
+use Rattle.std.proofs.Common.{◌+◌, ◌/◌, Bool, true, false, List, ◌++◌, drop, string_bytes, sym, ap, ◌∙◌}
 use Rattle.fields.specs.Held.{name_text}
 use Rattle.fields.specs.Text.{Bytes}
 use Rattle.domain.specs.Held.{domain_tables}

@@ -1,9 +1,9 @@
-use Rattle.std.proofs.Common.{◌≡◌, ◌+◌, true, false, List, [], ◌∷◌, ◌++◌, drop, string_bytes, sym, refl, ap, ◌∙◌}
+use Rattle.std.proofs.Common.{◌+◌, true, false, List, ◌++◌, drop, string_bytes, sym, ap, ◌∙◌}
 use Rattle.std.proofs.lemmas.List.{at_drop_more, at_drop_all}
 use Rattle.fields.specs.Text.{Bytes}
 use Rattle.theory.specs.declared.Subtask.{Subtask}
 use Rattle.domain.specs.Held.{domain_tables}
-use Rattle.listing.specs.Listing.{subtask_name, subtask_names}
+use Rattle.listing.specs.Listing.{subtask_names}
 use Rattle.listing.specs.Names.{separated, continued}
 use Rattle.listing.proofs.Steps.{onward, makes, continued-more}
 use Rattle.listing.proofs.names.subtask_list.Goals as goal

@@ -1,7 +1,5 @@
-use Rattle.std.proofs.Common.{◌≡◌, sym, refl, ◌∙◌}
+use Rattle.std.proofs.Common.{sym, refl, ◌∙◌}
 use Rattle.fields.proofs.Lists.{all-stop, all_more, all_end}
-use Rattle.theory.specs.Rules.{vanishes}
-use Rattle.tables.specs.Held.{task_ranks}
 use Rattle.tables.proofs.rules.all_vanish.Goals as goal
 
 pub loop-s-init : goal.loop-s-init

@@ -1,7 +1,6 @@
-use Rattle.std.proofs.Common.{◌≡◌, sym, ap, ◌∙◌, le-ltb}
+use Rattle.std.proofs.Common.{sym, ap, ◌∙◌, le-ltb}
 use Rattle.theory.specs.Model.{Task}
 use Rattle.theory.specs.Rules.{vanishes}
-use Rattle.theory.specs.declared.Subtask.{Subtask}
 use Rattle.tables.specs.Held.{task_ranks}
 use Rattle.tables.specs.declared.entries.Task.{Task as Entry}
 use Rattle.tables.proofs.Ranks.{rank-at, rank-past}

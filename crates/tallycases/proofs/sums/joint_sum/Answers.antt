@@ -1,4 +1,4 @@
-use Rattle.std.proofs.Common.{map, ap, ◌∙◌}
+use Rattle.std.proofs.Common.{map, ap}
 use mathlib.Core.List.{map-append}
 use Rattle.theory.specs.Algebra.{sum}
 use Rattle.theory.proofs.Sums.{sum_append}

@@ -1,4 +1,4 @@
-use Rattle.std.proofs.Common.{◌≡◌, map, ap, ◌∙◌, arith, take_all, rules}
+use Rattle.std.proofs.Common.{map, ap, ◌∙◌, arith, take_all, rules}
 use Rattle.theory.specs.Algebra.{product}
 use Rattle.theory.proofs.Sums.{product-more}
 use Rattle.tallycases.proofs.sums.product.Goals as goal

@@ -1,4 +1,4 @@
-use Rattle.std.proofs.Common.{◌≡◌, map, ap, ◌∙◌, arith, take_all, rules}
+use Rattle.std.proofs.Common.{map, ap, ◌∙◌, arith, take_all, rules}
 use Rattle.theory.specs.Algebra.{sum}
 use Rattle.theory.proofs.Sums.{sum_more}
 use Rattle.tallycases.proofs.sums.sum.Goals as goal

@@ -1,11 +1,7 @@
-use Rattle.std.proofs.Common.{◌≡◌, Ok, Err, sym, refl, ap, ◌∙◌}
+use Rattle.std.proofs.Common.{Err, sym, refl, ap, ◌∙◌}
 use Rattle.fields.specs.Held.{line_fields}
-use Rattle.reading.specs.Lines.{Check}
 use Rattle.reading.specs.Reading.{line}
-use Rattle.reading.specs.Tables.{Tables}
 use Rattle.reading.specs.declared.faults.DomainFault.{DomainFault}
-use Rattle.reading.specs.declared.faults.DomainFault.TheVariants.{Line}
-use Rattle.reading.specs.declared.kinds.Section.{Section}
 use Rattle.domain.specs.Held.{domain_tables}
 use Rattle.domain.proofs.Heads.{after_is, all-fields, head-none, head_out, head_ok, head_no}
 use Rattle.domain.proofs.Takings.{taken_err, line-head, line-declared, line_refused}

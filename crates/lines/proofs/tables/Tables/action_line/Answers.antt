@@ -1,4 +1,4 @@
-use Rattle.std.proofs.Common.{◌≡◌, List, Ok, vec_items, vec_len, sym, refl, ap, arith, eq-eqb, ne_eqb}
+use Rattle.std.proofs.Common.{List, Ok, vec_items, vec_len, sym, refl, ap, arith, eq-eqb, ne_eqb}
 use Rattle.reading.specs.Tables.{ActionEntry}
 use Rattle.reading.specs.declared.faults.DomainFault.TheVariants.{Full, Clash}
 use Rattle.reading.proofs.Checks.{pass, fail}

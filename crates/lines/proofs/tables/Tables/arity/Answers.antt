@@ -1,7 +1,7 @@
-use Rattle.std.proofs.Common.{◌≡◌, ℕ, ◌-◌, ◌<◌, ◌≤◌, List, map, length, get_or, vec_items, sym, ap, ◌∙◌, arith, rules, ltb-false, ltb-true}
+use Rattle.std.proofs.Common.{◌≡◌, ◌-◌, ◌<◌, ◌≤◌, List, length, get_or, vec_items, sym, ap, ◌∙◌, arith, rules, ltb-false, ltb-true}
 use Rattle.theory.specs.Model.{Method as Way, no_method}
 use Rattle.reading.specs.Lines.{arity}
-use Rattle.tables.specs.Held.{few_items, method_entry}
+use Rattle.tables.specs.Held.{method_entry}
 use Rattle.tables.specs.declared.entries.Method.{Method}
 use Rattle.lines.specs.Closes.{meant}
 use Rattle.lines.proofs.Closing.{closed_sound}

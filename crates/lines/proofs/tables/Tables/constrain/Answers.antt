@@ -1,4 +1,4 @@
-use Rattle.std.proofs.Common.{◌≡◌, ℕ, suc, ◌-◌, ◌<◌, ◌≤◌, ltb, List, map, length, get_or, Ok, vec_items, vec_len, sym, refl, ap, ◌∙◌, arith, ltb-false, ltb-true}
+use Rattle.std.proofs.Common.{◌≡◌, ℕ, suc, ◌-◌, ◌<◌, ltb, List, map, length, get_or, Ok, vec_items, vec_len, sym, refl, ap, ◌∙◌, arith}
 use Rattle.theory.specs.declared.Constraint.{Constraint}
 use Rattle.theory.specs.Model.{Method as Way, no_method}
 use Rattle.reading.specs.Tables.{constrained, last_or}

@@ -1,4 +1,4 @@
-use Rattle.std.proofs.Common.{◌<◌, ◌≤◌, List, Ok, vec_items, vec_len, sym, refl, ap, arith}
+use Rattle.std.proofs.Common.{List, Ok, vec_items, vec_len, sym, refl, ap, arith}
 use Rattle.fields.specs.Held.{name_text}
 use Rattle.fields.specs.Text.{Bytes}
 use Rattle.reading.specs.declared.faults.DomainFault.TheVariants.{Full}

@@ -1,8 +1,7 @@
-use Rattle.std.proofs.Common.{◌≡◌, ℕ, List, map, length, Some, None, sym, refl, ap, ◌∙◌, arith}
-use Rattle.fields.specs.declared.name.Name.{Name}
-use Rattle.fields.specs.Held.{name_text, pieces_left}
+use Rattle.std.proofs.Common.{◌≡◌, ℕ, length, Some, None, sym, refl, ap, ◌∙◌, arith}
+use Rattle.fields.specs.Held.{pieces_left}
 use Rattle.reading.specs.Lines.{field, taking, with_fact}
-use Rattle.reading.specs.Tables.{index_of, fact_of}
+use Rattle.reading.specs.Tables.{fact_of}
 use Rattle.reading.specs.declared.faults.DomainFault.TheVariants.{Undeclared}
 use Rattle.reading.proofs.Checks.{step}
 use Rattle.reading.proofs.Keeps.{index_lt}

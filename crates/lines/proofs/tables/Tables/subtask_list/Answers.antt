@@ -1,4 +1,4 @@
-use Rattle.std.proofs.Common.{◌≡◌, List, [], ◌∷◌, length, sym, refl, ap, ◌∙◌, arith, length-append}
+use Rattle.std.proofs.Common.{List, [], ◌∷◌, length, sym, refl, ap, ◌∙◌, arith, length-append}
 use Rattle.fields.specs.Held.{line_fields, pieces_left}
 use Rattle.reading.specs.Lines.{field, taking, with_last}
 use Rattle.reading.specs.Tables.{symbol_of}

@@ -1,9 +1,7 @@
-use Rattle.std.proofs.Common.{◌≡◌, ℕ, List, map, vec_items, sym, ap, ◌∙◌, ap₂}
+use Rattle.std.proofs.Common.{List, map, vec_items, sym, ap, ◌∙◌, ap₂}
 use Rattle.fields.specs.Text.{Bytes}
 use Rattle.reading.specs.Tables.{index_of, or_task, ActionEntry, TaskEntry}
 use Rattle.tables.specs.Held.{action_name, task_name, action_entry, task_entry}
-use Rattle.tables.specs.declared.entries.Action.{Action}
-use Rattle.tables.specs.declared.entries.Task.{Task}
 use Rattle.tables.proofs.Places.{map-map}
 use Rattle.lines.proofs.tables.Tables.symbol.Goals as goal
 

@@ -1,4 +1,4 @@
-use Rattle.std.proofs.Common.{◌≡◌, List, Ok, vec_items, vec_len, sym, refl, ap, arith}
+use Rattle.std.proofs.Common.{List, Ok, vec_items, vec_len, sym, refl, ap, arith}
 use Rattle.reading.specs.Tables.{TaskEntry}
 use Rattle.reading.specs.declared.faults.DomainFault.TheVariants.{Full}
 use Rattle.reading.proofs.Checks.{pass, fail}
