@@ -9,7 +9,7 @@ use Rattle.reading.specs.declared.kinds.Kind.{Kind}
 use Rattle.reading.specs.declared.kinds.Section.{Section}
 use Rattle.reading.specs.declared.kinds.Section.TheVariants.{Facts, Actions, Tasks as TaskSection, Methods, Closed}
 use Rattle.domain.specs.declared.domain.Domain.{Domain}
-use Rattle.lines.specs.declared.tables.Tables as lines
+use Rattle.lines.specs.declared.filled.Tables as lines
 use Rattle.domain.specs.declared.reader.Reader.{Reader}
 use Rattle.lines.specs.Closes.{meant}
 use Rattle.lines.specs.Took.{Declares}

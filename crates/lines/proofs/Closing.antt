@@ -10,7 +10,7 @@ use Rattle.reading.specs.declared.faults.DomainFault.{DomainFault}
 use Rattle.reading.specs.declared.kinds.Kind.{Kind}
 use Rattle.reading.proofs.Keeps.{keeps}
 use Rattle.reading.proofs.Parts.{Parts, sound-parts}
-use Rattle.lines.specs.declared.tables.Tables.{Tables}
+use Rattle.lines.specs.declared.filled.Tables.{Tables}
 use Rattle.lines.specs.Closes.{meant, roomy, closes}
 use Rattle.lines.specs.Took.{Took}
 

@@ -16,7 +16,7 @@ use Rattle.reading.specs.declared.faults.DomainFault.TheVariants.{Clash, Mark, L
 use Rattle.reading.proofs.Checks.{step, stop}
 use Rattle.tables.specs.Held.{few_items, task_ranks}
 use Rattle.tables.specs.declared.entries.Method.{Method as Held}
-use Rattle.lines.specs.declared.tables.Tables.{Tables}
+use Rattle.lines.specs.declared.filled.Tables.{Tables}
 use Rattle.lines.specs.Closes.{meant, closes}
 use Rattle.lines.specs.Entries.{action_in, task_in, method_in, rules_for, position_in, between_in}
 use Rattle.lines.specs.Took.{Took, new_symbol, old_fact, old_task, fact_set, subtask_list, arity}

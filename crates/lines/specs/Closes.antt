@@ -4,7 +4,7 @@ use Rattle.fields.specs.Held.{name_text}
 use Rattle.reading.specs.Sound.{sound}
 use Rattle.reading.specs.Tables as plain
 use Rattle.tables.specs.Held.{action_entry, task_entry, method_entry}
-use Rattle.lines.specs.declared.tables.Tables.{Tables}
+use Rattle.lines.specs.declared.filled.Tables.{Tables}
 
 abbrev pub meant : Tables → plain.Tables
 meant t =

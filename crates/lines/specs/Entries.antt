@@ -13,7 +13,7 @@ use Rattle.reading.specs.Tables.{ActionEntry, TaskEntry}
 use Rattle.reading.specs.declared.faults.DomainFault.TheVariants.{Mark, Ladder}
 use Rattle.tables.specs.Held.{few_items, task_ranks}
 use Rattle.tables.specs.declared.entries.Method.{Method}
-use Rattle.lines.specs.declared.tables.Tables.{Tables}
+use Rattle.lines.specs.declared.filled.Tables.{Tables}
 use Rattle.lines.specs.Took.{new_symbol, old_fact, old_task, fact_set, subtask_list, arity}
 
 module _ (t : Tables) (l : Line) where

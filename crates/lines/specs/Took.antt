@@ -9,7 +9,7 @@ use Rattle.reading.specs.Reading.{declared}
 use Rattle.reading.specs.Tables as plain-tables
 use Rattle.reading.specs.declared.faults.DomainFault.{DomainFault}
 use Rattle.reading.specs.declared.kinds.Kind.{Kind}
-use Rattle.lines.specs.declared.tables.Tables.{Tables}
+use Rattle.lines.specs.declared.filled.Tables.{Tables}
 use Rattle.lines.specs.Closes.{meant, roomy}
 
 -- the answer and the tables after it are those of a definition; a refusal leaves the tables as they were

@@ -1,7 +1,7 @@
 ghost use Rattle.std.specs.Prelude.{◌≡◌, true};
 ghost use Rattle.lines.specs.Closes.{closes};
 
-use crate::tables::Tables;
+use crate::filled::Tables;
 
 mod declare;
 

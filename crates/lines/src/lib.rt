@@ -1,8 +1,8 @@
 #![tactic(auto)]
 
+mod filled;
 mod lawful;
 mod lines;
-mod tables;
 
+pub use filled::Tables;
 pub use lawful::LawfulTables;
-pub use tables::Tables;

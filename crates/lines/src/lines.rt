@@ -8,7 +8,7 @@ ghost use Rattle.lines.specs.Closes.{meant, closes};
 ghost use Rattle.lines.specs.Took.{Took, TookLine, new_fact, new_symbol, old_fact, old_task, fact_set, subtask_list, arity};
 ghost use Rattle.lines.specs.Entries.{action_in, task_in, method_in, rules_for, position_in, between_in, with_subtask};
 
-use crate::tables::Tables;
+use crate::filled::Tables;
 use fields::{Line, Name};
 use reading::DomainFault;
 use std::alloc::{AllocError, Global};

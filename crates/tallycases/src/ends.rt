@@ -1,4 +1,4 @@
-pub(crate) mod tally;
+pub(crate) mod first;
 
 // Where a tree begins and ends: the tasks of its first and of its last method in record order.
 #[derive(Clone, Copy)]

@@ -10,7 +10,7 @@ mod sums;
 mod table;
 
 use ends::Ends;
-use ends::tally::FirstEnds;
+use ends::first::FirstEnds;
 use shown::Shown;
 use std::io;
 use sums::pair_sum;

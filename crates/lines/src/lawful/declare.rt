@@ -3,8 +3,8 @@ ghost use Rattle.reading.specs.Tables.{empty};
 ghost use Rattle.lines.specs.Closes.{meant};
 ghost use Rattle.lines.specs.Took.{Declares};
 
+use crate::filled::Tables;
 use crate::lawful::LawfulTables;
-use crate::tables::Tables;
 use fields::Line;
 use reading::{DomainFault, Kind};
 use std::alloc::{AllocError, Global};
