@@ -92,7 +92,7 @@ def mapping():
     return {o: n for o, n in turned.items() if o != n}
 
 
-def turn_line(line, names, comment, strings):
+def turn_line(line, names, comment):
     """The line with the names turned: in code, in clauses, and in comments those with a capital inside."""
 
     def word(m):
@@ -101,7 +101,7 @@ def turn_line(line, names, comment, strings):
     pattern = re.compile(r"[A-Za-z0-9_'][\w'-]*")
     cut = line.find(comment)
     code, rest = (line, "") if cut < 0 else (line[:cut], line[cut:])
-    pieces = re.split(r'("(?:[^"\\]|\\.)*")', code) if strings else [code]
+    pieces = re.split(r'("(?:[^"\\]|\\.)*")', code)
     code = "".join(p if p.startswith('"') else pattern.sub(word, p) for p in pieces)
     rest = pattern.sub(lambda m: word(m) if re.search(r"[a-z][A-Z]", m.group(0)) else m.group(0), rest)
     return code + rest
@@ -114,10 +114,10 @@ def main(argv):
             print(f"{old} -> {names[old]}")
         return
     for p in list(files()):
-        rt = p.endswith(".rt")
+        comment = "//" if p.endswith(".rt") else "--"
         with open(p, encoding="utf-8") as f:
             old = f.read()
-        new = "".join(turn_line(l, names, "//" if rt else "--", rt) for l in old.splitlines(keepends=True))
+        new = "".join(turn_line(l, names, comment) for l in old.splitlines(keepends=True))
         if new != old:
             with open(p, "w", encoding="utf-8") as f:
                 f.write(new)
