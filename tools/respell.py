@@ -21,9 +21,7 @@ DECLARED = re.compile(rf"^(\s*)((?:unfoldable |abbrev |pub )*)({WORD})(?:\s+\([^
 TYPE = re.compile(rf"^(\s*)(?:pub |abbrev )*(?:record|data)\s+({WORD})")
 # functions of std that a lemma's name is joined from
 STD = {"append", "length", "map", "take", "drop", "or", "and"}
-
-
-# three texts of examples, whose names would be those of the facts about them; a lemma on T
+# a lemma on T, which begins like a type; three texts of examples, whose names would be those of the facts about them
 CHOSEN = {"T-all": "T-all", "ladderBroken": "ladder_broken_text", "ladderKept": "ladder_kept_text", "markBroken": "mark_broken_text"}
 
 
