@@ -1,50 +1,61 @@
 -- a text cut at each separator
-use Rattle.std.proofs.Common.{◌≡◌, ℕ, suc, ◌+◌, ◌-◌, ◌<◌, ◌≤◌, Bool, true, false, cond, eqb, List, [], ◌∷◌, ◌++◌, length, get_or, take, drop, sym, refl, ap, ◌∙◌, le_of_suc-le-suc, not-suc-le-zero, add-one, arith, take_all, eq-eqb, ne_eqb, eqb-true}
-use native.Mathlib.Nat.{sub-zero}
+use Rattle.std.proofs.Common.{◌≡◌, ℕ, suc, ◌+◌, ◌-◌, ◌<◌, ◌≤◌, Bool, true, false, cond, eqb, List, [], ◌∷◌, ◌++◌, length, take, drop, sym, refl, ap, ◌∙◌, le_of_suc-le-suc, not-suc-le-zero, not, ltb, Some, None, Option, subst, ltb-true, ltb-false, add-one, arith, eq-eqb, ne_eqb, eqb-true}
 use borrow.Author.Tests.{eqb-false}
-use Rattle.std.proofs.lemmas.List.{at_drop_more, take_rest}
+use Rattle.std.proofs.lemmas.List.{take_rest}
 use Rattle.theory.specs.Lists.{All}
 use Rattle.fields.specs.Text.{Bytes, cons_first, parted, joined, Free, Cut}
-use Rattle.fields.specs.Heads.{head_len}
+use Rattle.std.specs.Option.{MatchOption}
+use Rattle.std.specs.List.{position, position_or_len}
 
 module _ (s : ℕ) where
-  pub head-stop : (xs : Bytes) (i : ℕ) → i < length xs → get_or xs i 0 ≡ s → head_len s xs ≡ i + head_len s (drop i xs) → i ≡ head_len s xs
-  head-stop xs i h e v =
-      let z : head_len s (drop i xs) ≡ 0 = at_drop_more (head_len s) xs i 0 h ∙ ap (λ (t : Bool). cond t 0 (suc (head_len s (drop (i + 1) xs)))) (eq-eqb (get_or xs i 0) s e) in
-      omega arith
+  -- how many bytes stand before the first separator, or how many there are
+  abbrev head : Bytes → ℕ
+  head [] = 0
+  head (b ∷ bs) = cond (eqb b s) 0 (suc (head bs))
 
-  pub head_more : (xs : Bytes) (i : ℕ) → i < length xs → (get_or xs i 0 ≡ s → ⊥) → head_len s xs ≡ i + head_len s (drop i xs) → head_len s xs ≡ i + 1 + head_len s (drop (i + 1) xs)
-  head_more xs i h e v =
-      let z : head_len s (drop i xs) ≡ suc (head_len s (drop (i + 1) xs)) = at_drop_more (head_len s) xs i 0 h ∙ ap (λ (t : Bool). cond t 0 (suc (head_len s (drop (i + 1) xs)))) (ne_eqb (get_or xs i 0) s e) in
-      omega arith
+  head-is : (l : Bytes) → position_or_len (λ b. eqb b s) l ≡ head l
+  head-is [] = refl
+  head-is (b ∷ bs) =
+      let h = head-is bs in
+      elim (eqb b s) as (λ t. cond (not t) (1 + position_or_len (λ c. eqb c s) bs) 0 ≡ cond t 0 (suc (head bs))) [ true ↦ refl | false ↦ omega (arith, h) ]
 
   abbrev After : ℕ → Bytes → Bool → Type 0
   After b bs t =
-      cond t 0 (suc (head_len s bs)) < suc (length bs) → cond t ([] ∷ parted s bs) (cons_first b (parted s bs))
-      ≡ take (cond t 0 (suc (head_len s bs))) (b ∷ bs) ∷ parted s (drop (suc (cond t 0 (suc (head_len s bs)))) (b ∷ bs))
+      cond t 0 (suc (head bs)) < suc (length bs) → cond t ([] ∷ parted s bs) (cons_first b (parted s bs))
+      ≡ take (cond t 0 (suc (head bs))) (b ∷ bs) ∷ parted s (drop (suc (cond t 0 (suc (head bs)))) (b ∷ bs))
 
   -- the first piece ends at the first separator
-  parted-head : (l : Bytes) → head_len s l < length l → parted s l ≡ take (head_len s l) l ∷ parted s (drop (suc (head_len s l)) l)
+  parted-head : (l : Bytes) → head l < length l → parted s l ≡ take (head l) l ∷ parted s (drop (suc (head l)) l)
   parted-head [] h = absurd (not-suc-le-zero h)
   parted-head (b ∷ bs) h =
       (elim (eqb b s) as (λ t. After b bs t) [ true ↦ λ _. refl | false ↦ λ k. ap (cons_first b) (parted-head bs (le_of_suc-le-suc k)) ]) h
 
   abbrev Whole : ℕ → Bytes → Bool → Type 0
-  Whole b bs t = suc (length bs) ≤ cond t 0 (suc (head_len s bs)) → cond t ([] ∷ parted s bs) (cons_first b (parted s bs)) ≡ (b ∷ bs) ∷ []
+  Whole b bs t = suc (length bs) ≤ cond t 0 (suc (head bs)) → cond t ([] ∷ parted s bs) (cons_first b (parted s bs)) ≡ (b ∷ bs) ∷ []
 
-  parted_whole : (l : Bytes) → length l ≤ head_len s l → parted s l ≡ l ∷ []
+  parted_whole : (l : Bytes) → length l ≤ head l → parted s l ≡ l ∷ []
   parted_whole [] h = refl
   parted_whole (b ∷ bs) h =
       (elim (eqb b s) as (λ t. Whole b bs t) [ true ↦ λ k. absurd (not-suc-le-zero k) | false ↦ λ k. ap (cons_first b) (parted_whole bs (le_of_suc-le-suc k)) ]) h
 
-  -- one step of the cutting: the piece and what is left, as the code has them
-  pub cut_more : (l : Bytes) (n : ℕ) → n ≡ head_len s l → n < length l → parted s l ≡ take (n - 0) l ∷ parted s (take (length l - (n + 1)) (drop (n + 1) l))
-  cut_more l n e h =
-      rw (take_rest l (n + 1), add-one n, sub-zero n)
-      (let k : head_len s l < length l = omega arith in rw e (parted-head l k))
+  abbrev Found : Bytes → Option ℕ → Type 0
+  Found l r = MatchOption r (length l ≤ head l) (λ n. (n ≡ head l) × (head l < length l))
 
-  pub cut_last : (l : Bytes) (n : ℕ) → n ≡ head_len s l → length l ≤ n → parted s l ≡ take (n - 0) l ∷ []
-  cut_last l n e h = rw (sub-zero n, take_all n l h) (parted_whole l (omega arith))
+  found : (l : Bytes) → Found l (position (λ b. eqb b s) l)
+  found l = rw (head-is l) (go (ltb (head l) (length l)) refl)
+    where
+      go : (t : Bool) → ltb (head l) (length l) ≡ t → Found l (cond t (Some (head l)) None)
+      go true e = (refl, ltb-true _ _ e)
+      go false e = ltb-false _ _ e
+
+  -- one step of the cutting: the piece and what is left, as the code has them
+  pub cut_more : (l : Bytes) (n : ℕ) → Some n ≡ position (λ b. eqb b s) l → parted s l ≡ take n l ∷ parted s (take (length l - (n + 1)) (drop (n + 1) l))
+  cut_more l n e =
+      let f = subst (Found l) (sym e) (found l) in
+      rw (take_rest l (n + 1), add-one n, f.0) (parted-head l f.1)
+
+  pub cut_last : (l : Bytes) → None ≡ position (λ b. eqb b s) l → parted s l ≡ l ∷ []
+  cut_last l e = parted_whole l (subst (Found l) (sym e) (found l))
 
   first_pos : (b : ℕ) (fs : List Bytes) → 0 < length (cons_first b fs)
   first_pos b [] = omega arith
@@ -57,17 +68,6 @@ module _ (s : ℕ) where
   first_len : (b : ℕ) (fs : List Bytes) → 0 < length fs → length (cons_first b fs) ≡ length fs
   first_len b [] h = absurd (not-suc-le-zero h)
   first_len b (f ∷ fs) h = refl
-
-  pub count_yes : (xs : Bytes) (i : ℕ) → i < length xs → get_or xs i 0 ≡ s → length (parted s (drop i xs)) ≡ suc (length (parted s (drop (i + 1) xs)))
-  count_yes xs i h e =
-      at_drop_more (λ (l : Bytes). length (parted s l)) xs i 0 h
-      ∙ ap (λ (t : Bool). length (cond t ([] ∷ parted s (drop (i + 1) xs)) (cons_first (get_or xs i 0) (parted s (drop (i + 1) xs))))) (eq-eqb (get_or xs i 0) s e)
-
-  pub count_no : (xs : Bytes) (i : ℕ) → i < length xs → (get_or xs i 0 ≡ s → ⊥) → length (parted s (drop i xs)) ≡ length (parted s (drop (i + 1) xs))
-  count_no xs i h e =
-      at_drop_more (λ (l : Bytes). length (parted s l)) xs i 0 h
-      ∙ ap (λ (t : Bool). length (cond t ([] ∷ parted s (drop (i + 1) xs)) (cons_first (get_or xs i 0) (parted s (drop (i + 1) xs))))) (ne_eqb (get_or xs i 0) s e)
-      ∙ first_len (get_or xs i 0) (parted s (drop (i + 1) xs)) (parted_pos (drop (i + 1) xs))
 
   pub parted_len : (l : Bytes) → length (parted s l) ≤ suc (length l)
   parted_len [] = omega arith

@@ -1,5 +1,6 @@
 -- the forms of names and numbers
-use Rattle.std.proofs.Common.{◌≡◌, ℕ, zero, suc, ◌<◌, ◌≤◌, true, false, cond, not, ◌&&◌, eqb, ltb, leb, [], ◌∷◌, length, get_or, Some, None, IsUtf8, sym, ap, ◌∙◌, arith, lt-ltb, le-leb}
+use Rattle.std.proofs.Common.{◌≡◌, ℕ, zero, suc, ◌<◌, ◌≤◌, true, false, cond, not, ◌&&◌, eqb, ltb, leb, [], ◌∷◌, length, get_or, Some, None, IsUtf8, Ok, Err, Result, IsOk, refl, sym, ap, ◌∙◌, arith, lt-ltb, le-leb}
+use Rattle.std.specs.Result.{MatchResult}
 use Rattle.std.proofs.lemmas.Bool.{and_parts, and_from, and_right, cond-true, cond-false}
 use Rattle.std.proofs.lemmas.Str.{IsUtf8-from_ascii}
 use Rattle.std.proofs.lemmas.Bool.Decides.{nat_tests}
@@ -16,6 +17,11 @@ bytes_lt (b ∷ bs) e (suc i) = bytes_lt bs (and_parts (name_byte b) _ e).1 i
 
 pub name_utf8 : (bs : Bytes) → name_form bs ≡ true → IsUtf8 bs
 name_utf8 bs e = IsUtf8-from_ascii bs (bytes_lt bs (and_parts (ltb 0 (length bs) && leb (length bs) 16 && small (get_or bs 0 0)) _ e).1)
+
+-- an answer that has no fault is a value
+pub ok_unless : {A E : Type 0} (P : A → Type 0) (Q : E → Type 0) (r : Result A E) → MatchResult r P Q → ((e : E) → Q e → ⊥) → IsOk r
+ok_unless P Q (Ok x) m n = refl
+ok_unless P Q (Err e) m n = absurd (n e m)
 
 pub no_number : (b : Bytes) → all digit b ≡ false → None ≡ cond (number_form b) (Some (value 0 b)) None
 no_number b e = sym (cond-false _ _ _ (and_right _ _ e))

@@ -1,31 +1,51 @@
-use Rattle.std.proofs.Common.{◌≡◌, ℕ, ◌+◌, ◌<◌, ◌≤◌, Bool, true, false, ◌&&◌, ◌⊎◌, List, [], ◌∷◌, ◌++◌, length, get_or, take, drop, set, sym, ap, ◌∙◌, inl, inr, append_assoc, append-nil, arith, length-append, length-take-le, take_all, take_at}
-use Rattle.std.proofs.lemmas.List.{at_drop_more, at_drop_all, take_more_set}
-use Rattle.theory.specs.Lists.{all}
+-- an array of five that is filled from the front with the first elements of a list
+use Rattle.std.proofs.Common.{◌≡◌, ℕ, ◌+◌, ◌<◌, ◌≤◌, min, List, [], ◌∷◌, ◌++◌, length, get_or, take, drop, set, sym, refl, ap, ◌∙◌, arith, subst}
+use Rattle.std.proofs.lemmas.List.{drop_more, take_more, take_more_set, take_min, length-set}
 
--- a test of every element, in a loop that has come to element i: what is left to test gives the answer
-module _ {A : Type 0} (p : A → Bool) (xs : List A) (i : ℕ) where
-  pub all-stop : (d : A) → i < length xs → p (get_or xs i d) ≡ false → all p (drop i xs) ≡ all p xs → all p xs ≡ false
-  all-stop d h n e = sym e ∙ at_drop_more (all p) xs i d h ∙ ap (λ (b : Bool). b && all p (drop (i + 1) xs)) n
+-- n elements were seen, and rest is still to come
+pub record Filled {A : Type 0} (fs xs rest : List A) (n : ℕ) : Type 0 where
+  pub size : length xs ≡ 5
+  pub left : drop n fs ≡ rest
+  pub seen : n + length rest ≡ length fs
+  pub front : take (min n 5) xs ≡ take (min n 5) fs
 
-  pub all_more : (d : A) → i < length xs → p (get_or xs i d) ≡ true → all p (drop i xs) ≡ all p xs → all p (drop (i + 1) xs) ≡ all p xs
-  all_more d h n e = sym (at_drop_more (all p) xs i d h ∙ ap (λ (b : Bool). b && all p (drop (i + 1) xs)) n) ∙ e
+-- the same, where its parts are written in another way
+pub filled_as : {A : Type 0} {fs xs ys rest left : List A} {n k : ℕ} → xs ≡ ys → rest ≡ left → n ≡ k → Filled fs xs rest n → Filled fs ys left k
+filled_as {A} {fs} {xs} {ys} {rest} {left} {n} {k} x r e f =
+    subst (λ (i : ℕ). Filled fs ys left i) e (subst (λ (l : List A). Filled fs ys l n) r (subst (λ (l : List A). Filled fs l rest n) x f))
 
-  pub all_end : length xs ≤ i → all p (drop i xs) ≡ all p xs → all p xs ≡ true
-  all_end h e = sym e ∙ at_drop_all (all p) xs i h
+module _ {A : Type 0} (fs xs : List A) where
+  pub filled_none : length xs ≡ 5 → Filled fs xs fs 0
+  filled_none h = record { size = h; left = refl; seen = omega arith; front = refl }
 
--- an array that is filled from the front: its first n elements, and then what has yet to come, are fs
-module _ {A : Type 0} (xs : List A) (n : ℕ) where
-  pub filled_more : (x : A) (rest fs : List A) → n < length xs → take n xs ++ x ∷ rest ≡ fs → take (n + 1) (set xs n x) ++ rest ≡ fs
-  filled_more x rest fs h e = ap (λ (l : List A). l ++ rest) (take_more_set xs n x h) ∙ append_assoc (take n xs) (x ∷ []) rest ∙ e
+  module _ (x : A) (rest : List A) (n : ℕ) (f : Filled fs xs (x ∷ rest) n) where
+    more : n < length fs
+    more = omega (arith, f.seen)
 
-  pub filled_len : (rest fs : List A) → n ≤ length xs → take n xs ++ rest ≡ fs → n + length rest ≡ length fs
-  filled_len rest fs h e = omega (arith, length-take-le n xs h, length-append (take n xs) rest, ap length e)
+    next : get_or fs n x ∷ drop (n + 1) fs ≡ x ∷ rest
+    next = sym (drop_more fs n x more) ∙ f.left
 
-  pub filled-all : (m : ℕ) (rest fs : List A) → length xs ≡ m → n ≤ m → take n xs ++ rest ≡ fs → (n ≡ m) ⊎ (rest ≡ []) → take (n + length rest) xs ≡ take m fs
-  filled-all m rest fs l h e (inl q) =
-      take_all (n + length rest) xs (omega arith) ∙ sym (take_all n xs (omega arith)) ∙ sym (take_at (take n xs) rest m (length-take-le n xs (omega arith) ∙ q)) ∙ ap (take m) e
-  filled-all m rest fs l h e (inr z) =
-      let len = filled_len rest fs (omega arith) e in
-      let none : length rest ≡ 0 = ap length z in
-      let same : n + length rest ≡ n = omega arith in
-      ap (λ (k : ℕ). take k xs) same ∙ sym (append-nil (take n xs)) ∙ ap (λ (r : List A). take n xs ++ r) (sym z) ∙ e ∙ sym (take_all m fs (omega arith))
+    pub filled_more : n < 5 → Filled fs (set xs n x) rest (n + 1)
+    filled_more h =
+        let now : min n 5 ≡ n = omega arith in
+        let then : min (n + 1) 5 ≡ n + 1 = omega arith in
+        let first : get_or fs n x ≡ x = cc next in
+        record {
+          size = length-set xs n x ∙ f.size;
+          left = cc next;
+          seen = omega (arith, f.seen);
+          front = rw then (take_more_set xs n x (omega (arith, f.size)) ∙ ap (λ (l : List A). l ++ x ∷ []) (rw now at f.front)
+              ∙ ap (λ (y : A). take n fs ++ y ∷ []) (sym first) ∙ sym (take_more fs n x more));
+        }
+
+    pub filled_past : 5 ≤ n → Filled fs xs rest (n + 1)
+    filled_past h =
+        let same : min (n + 1) 5 ≡ min n 5 = omega arith in
+        record { size = f.size; left = cc next; seen = omega (arith, f.seen); front = rw same f.front }
+
+  pub filled_end : (n : ℕ) → Filled fs xs [] n → (n ≡ length fs) × (take n xs ≡ take 5 fs)
+  filled_end n f =
+      let e : n ≡ length fs = omega (arith, f.seen) in
+      let m : min n 5 ≡ min n (length xs) = omega (arith, f.size) in
+      let k : min n 5 ≡ min 5 (length fs) = omega arith in
+      (e, sym (take_min n xs) ∙ ap (λ (i : ℕ). take i xs) (sym m) ∙ f.front ∙ ap (λ (i : ℕ). take i fs) k ∙ take_min 5 fs)

@@ -1,5 +1,5 @@
 -- what the values of this crate hold
-use Rattle.std.specs.Prelude.{◌≡◌, ℕ, cond, ◌&&◌, List, [], ◌∷◌, map, take, Some, None, Ok, Err, Option, Result, ◌==◌, nat_le}
+use Rattle.std.specs.Prelude.{ℕ, cond, ◌&&◌, List, [], map, take, Some, None, Ok, Err, Option, Result, ◌==◌, nat_le}
 use Rattle.std.specs.Borrow.{Bor}
 use Rattle.fields.specs.Text.{Bytes, parted}
 use Rattle.fields.specs.declared.faults.LineFault.{LineFault}
@@ -11,14 +11,14 @@ use Rattle.fields.specs.declared.line.Line.{Line}
 abbrev pub name_text : Name → Bytes
 name_text n = take n.len n.bytes
 
+-- the pieces of what is left of a text, if anything is left
+abbrev pub parted_rest : ℕ → Option (Bor Bytes) → List Bytes
+parted_rest sep None = []
+parted_rest sep (Some text) = parted sep text.now
+
 -- the pieces that are still to come
 abbrev pub pieces_left : Pieces → List Bytes
-pieces_left p = cond p.more (parted p.separator p.rest.now) []
-
--- a piece was taken from the left, where any was left
-abbrev pub Gave : Option (Bor Bytes) → Pieces → Pieces → Type 0
-Gave None old new = (pieces_left old ≡ []) × (pieces_left new ≡ [])
-Gave (Some f) old new = pieces_left old ≡ f.now ∷ pieces_left new
+pieces_left p = parted_rest p.separator p.rest
 
 -- the first fields of a line, as many as any letter asks for
 abbrev pub line_fields : Line → List Bytes

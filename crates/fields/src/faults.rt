@@ -1,4 +1,5 @@
 ghost use Rattle.std.specs.Prelude.{◌≡◌};
+ghost use Rattle.fields.specs.declared.faults.FieldCause.TheVariants.{Form, Range};
 ghost use Rattle.fields.specs.declared.faults.LineFault.TheVariants.{Field};
 
 // Why a field is refused: it is not of its form, or its number or its list's length is outside its range.
@@ -13,6 +14,28 @@ pub enum FieldCause {
 pub struct FieldFault {
     pub cause: FieldCause,
     pub field: u8,
+}
+
+impl FieldFault {
+    // The field is not of its form.
+    pub(crate) fn form(field: u8) -> FieldFault
+        ensures { result ≡ record { cause = Form; field = field } }
+    {
+        FieldFault {
+            cause: FieldCause::Form,
+            field,
+        }
+    }
+
+    // The number, or the length of the list, is outside its range.
+    pub(crate) fn range(field: u8) -> FieldFault
+        ensures { result ≡ record { cause = Range; field = field } }
+    {
+        FieldFault {
+            cause: FieldCause::Range,
+            field,
+        }
+    }
 }
 
 // A line's fault: its letter is unknown or not allowed here; it has so many fields and should have another number,

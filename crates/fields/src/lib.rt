@@ -13,8 +13,6 @@ pub use name::Name;
 pub use pieces::Pieces;
 
 // A line's fields, joined by tabs, are the line, and no other fields without tabs are.
-pub fn fields_rejoin() -> u8
+pub fn fields_rejoin()
     ensures { FieldsRejoin }
-{
-    0
-}
+{}

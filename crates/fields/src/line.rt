@@ -1,10 +1,12 @@
-ghost use Rattle.std.specs.Prelude.{◌≡◌, [], length, take, if◌then◌else◌, Some, None, slice_index_or};
-ghost use Rattle.fields.specs.Text.{fields, at, items, number_form, value};
+ghost use Rattle.std.specs.Prelude.{◌≡◌, length, take, if◌then◌else◌, Some, None, map};
+ghost use Rattle.theory.specs.Lists.{all};
+ghost use Rattle.fields.specs.Text.{fields, at, items, name_form, number_form, value};
 ghost use Rattle.fields.specs.Read.{name_in, number_in, mark_in, list_in, short_list_in};
 ghost use Rattle.fields.specs.Held.{name_text, pieces_left, line_fields, answered, count_in};
 
 use crate::faults::{FieldCause, FieldFault, LineFault};
 use crate::name::Name;
+use crate::name::text::is_name;
 use crate::pieces::Pieces;
 
 // A line cut at its tabs: its first fields, how many it has, and how many bytes.
@@ -21,19 +23,17 @@ impl<'a> Line<'a> {
         ensures count { result.count ≡ length (fields bytes.now) }
         ensures len { result.len ≡ length bytes.now }
     {
-        let mut pieces = Pieces::of(bytes, b'\t');
         let mut at: [&'a [u8]; 5] = [&[]; 5];
-        let mut n = 0;
-        while n < 5 {
-            let Some(piece) = pieces.next_piece() else {
-                break;
-            };
-            at[n] = piece;
-            n += 1;
+        let mut count = 0;
+        for (i, piece) in Pieces::of(bytes, b'\t').enumerate() {
+            if i < 5 {
+                at[i] = piece;
+            }
+            count = i + 1;
         }
         Line {
             at,
-            count: n + pieces.count(),
+            count,
             len: bytes.len(),
         }
     }
@@ -52,46 +52,26 @@ impl<'a> Line<'a> {
     pub fn field(&self, k: u8) -> &'a [u8]
         ensures { result.now ≡ at (line_fields self.now) k }
     {
-        self.after((k as usize).saturating_sub(1))
-    }
-
-    // The field with so many before it; empty where there is none.
-    fn after(&self, before: usize) -> &'a [u8]
-        ensures { result.now ≡ slice_index_or (line_fields self.now) before [] }
-    {
-        if before >= 5 || before >= self.count {
+        let before = usize::from(k).saturating_sub(1);
+        if before >= self.count {
             return &[];
         }
-        self.at[before]
+        self.at.get(before).copied().unwrap_or(&[])
     }
 
     pub fn name(&self, k: u8) -> Result<Name, FieldFault>
         ensures { answered name_text result ≡ name_in (line_fields self.now) k }
     {
-        match Name::new(self.field(k)) {
-            Some(name) => Ok(name),
-            None => Err(FieldFault {
-                cause: FieldCause::Form,
-                field: k,
-            }),
-        }
+        Name::new(self.field(k)).ok_or(FieldFault::form(k))
     }
 
     // A number from low to high.
     pub fn number(&self, k: u8, low: u32, high: u32) -> Result<u32, FieldFault>
         ensures { result ≡ number_in (line_fields self.now) k low high }
     {
-        let Some(n) = number(self.field(k)) else {
-            return Err(FieldFault {
-                cause: FieldCause::Form,
-                field: k,
-            });
-        };
+        let n = number(self.field(k)).ok_or(FieldFault::form(k))?;
         if n < low || n > high {
-            return Err(FieldFault {
-                cause: FieldCause::Range,
-                field: k,
-            });
+            return Err(FieldFault::range(k));
         }
         Ok(n)
     }
@@ -103,10 +83,7 @@ impl<'a> Line<'a> {
         match self.field(k) {
             [b'v'] => Ok(true),
             [b'n'] => Ok(false),
-            _ => Err(FieldFault {
-                cause: FieldCause::Form,
-                field: k,
-            }),
+            _ => Err(FieldFault::form(k)),
         }
     }
 
@@ -115,11 +92,8 @@ impl<'a> Line<'a> {
         ensures { answered pieces_left result ≡ list_in (line_fields self.now) k }
     {
         let names = names_of(self.field(k));
-        if !names.all_names() {
-            return Err(FieldFault {
-                cause: FieldCause::Form,
-                field: k,
-            });
+        if !all_names(names) {
+            return Err(FieldFault::form(k));
         }
         Ok(names)
     }
@@ -129,11 +103,9 @@ impl<'a> Line<'a> {
         ensures { answered pieces_left result ≡ short_list_in (line_fields self.now) k most }
     {
         let names = self.list(k)?;
-        if names.count() > most {
-            return Err(FieldFault {
-                cause: FieldCause::Range,
-                field: k,
-            });
+        let mut rest = names;
+        if rest.nth(most).is_some() {
+            return Err(FieldFault::range(k));
         }
         Ok(names)
     }
@@ -143,10 +115,18 @@ impl<'a> Line<'a> {
 fn names_of(list: &[u8]) -> Pieces<'_>
     ensures { pieces_left result ≡ items list.now }
 {
-    if list.len() == 1 && list[0] == b'-' {
-        return Pieces::none();
+    match list {
+        [b'-'] => Pieces::none(),
+        _ => Pieces::of(list, b','),
     }
-    Pieces::of(list, b',')
+}
+
+// Whether each of the pieces is a name.
+fn all_names(pieces: Pieces<'_>) -> bool
+    ensures { result ≡ all name_form (pieces_left pieces.entry) }
+{
+    let mut pieces = pieces;
+    pieces.all(is_name)
 }
 
 // The value of a text that is a number: 1 to 6 decimal digits, with no zero before another digit.
@@ -161,10 +141,10 @@ fn number(text: &[u8]) -> Option<u32>
     }
     let mut n = 0u32;
     for d in text {
-        if *d < b'0' || *d > b'9' {
+        if !d.is_ascii_digit() {
             return None;
         }
-        n = n * 10 + (*d - b'0') as u32;
+        n = n * 10 + u32::from(*d - b'0');
     }
     Some(n)
 }

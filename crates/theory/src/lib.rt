@@ -18,8 +18,7 @@ pub enum Constraint {
 }
 
 // The tests of the mark rule and of the ladder rule say yes exactly where the rules are kept.
-pub fn rules_decided() -> u8
+pub fn rules_decided()
     ensures { RulesDecided }
 {
-    0
 }

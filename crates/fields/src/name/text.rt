@@ -31,10 +31,7 @@ impl Name {
     pub fn as_str(&self) -> &str
         ensures { result.now ≡ name_text self.now }
     {
-        match from_utf8(self.as_bytes()) {
-            Ok(s) => s,
-            Err(_) => "",
-        }
+        from_utf8(self.as_bytes()).unwrap()
     }
 }
 
@@ -44,33 +41,26 @@ fn padded(text: &[u8]) -> [u8; 16]
     ensures { take (length text.now) result ≡ text.now }
 {
     let mut bytes = [0; 16];
-    for (i, b) in text.iter().enumerate() {
-        bytes[i] = *b;
-    }
+    bytes[..text.len()].copy_from_slice(text);
     bytes
 }
 
 fn is_small(b: u8) -> bool
     ensures { result ≡ small b }
 {
-    b'a' <= b && b <= b'z'
+    b.is_ascii_lowercase()
 }
 
 fn is_name_byte(b: u8) -> bool
     ensures { result ≡ name_byte b }
 {
-    is_small(b) || (b'0' <= b && b <= b'9')
+    is_small(b) || b.is_ascii_digit()
 }
 
 fn all_name_bytes(text: &[u8]) -> bool
     ensures { result ≡ all name_byte text.now }
 {
-    for b in text {
-        if !is_name_byte(*b) {
-            return false;
-        }
-    }
-    true
+    text.iter().all(|b| is_name_byte(*b))
 }
 
 pub(crate) fn is_name(text: &[u8]) -> bool

@@ -1,46 +1,41 @@
-use Rattle.std.proofs.Common.{◌≡◌, ℕ, ◌+◌, ◌⊎◌, List, [], ◌++◌, map, length, take, sym, refl, ap, ◌∙◌, inl, inr, arith}
-use Rattle.std.proofs.lemmas.List.{map-set, length-set}
-use Rattle.fields.specs.Text.{Bytes, fields, tab}
+use Rattle.std.proofs.Common.{◌+◌, map, length, refl, sym, ap, ◌∙◌, inl, arith}
+use Rattle.std.proofs.lemmas.List.{map-set}
+use Rattle.fields.specs.Text.{fields, tab}
 use Rattle.fields.specs.Held.{pieces_left}
 use Rattle.fields.proofs.Cuts.{parted_len}
-use Rattle.fields.proofs.Lists.{filled_more, filled_len, filled-all}
+use Rattle.fields.proofs.Lists.{Filled, filled_as, filled_none, filled_more, filled_past, filled_end}
 use Rattle.fields.proofs.line.Line.cut.Goals as goal
-use Rattle.fields.proofs.line.Line.cut.Goals.{else-loop-n-test, then-loop-n-test+in_default}
+use Rattle.fields.proofs.line.Line.cut.Goals.{then-i-lt5, else-i-lt5}
 
-pub loop-n-preserved : goal.loop-n-preserved
-loop-n-preserved c =
-    let n : ℕ = c.loop-n.n in
-    let fs : List Bytes = map (λ x. x.now) c.loop-n.at in
-    let m = map-set (λ x. x.now) c.loop-n.at n c.in-Some.piece in (
-      ap (λ (l : List Bytes). take (n + 1) l ++ pieces_left c.next_piece.new.self) m
-          ∙ filled_more fs n c.in-Some.piece.now (pieces_left c.next_piece.new.self) (fields c.args.bytes.now) (omega (arith, c.loop-n.invariant.2))
-          (ap (λ (l : List Bytes). take n fs ++ l) (sym c.in-Some.ensures) ∙ c.loop-n.invariant.0),
-      omega arith,
-      ap length m ∙ length-set fs n c.in-Some.piece.now ∙ c.loop-n.invariant.2,
-    )
+pub loop-i-init : goal.loop-i-init
+loop-i-init c =
+    let fs = fields c.args.bytes.now in
+    let it = c.into_iter-i-iterator.ensures.into_iter_gives in
+    let none = ap (λ e. e.count) it ∙ c.enumerate-i-items.ensures.count in
+    let all = ap (λ e. pieces_left e.iter) it ∙ ap pieces_left c.enumerate-i-items.ensures.source ∙ c.of.ensures in
+    ((tt, tt, inl (omega (arith, none, ap length all, parted_len tab c.args.bytes.now, c.well_formed))), tt, none, filled_as refl (sym all) refl (filled_none fs _ refl))
 
--- where the loop ends, the array is full or nothing is left
-ended : (c : goal.After-count) → (take c.loop-n.n (map (λ x. x.now) c.loop-n.at) ++ pieces_left c.loop-n-test.pieces ≡ fields c.args.bytes.now) × ((c.loop-n.n ≡ 5) ⊎ (pieces_left c.loop-n-test.pieces ≡ []))
-ended c =
-    elim c.loop-n-test.branch [
-      | else-loop-n-test w ↦ (ap (λ (l : List Bytes). take c.loop-n.n (map (λ x. x.now) c.loop-n.at) ++ l) (ap pieces_left w.pieces-is) ∙ c.loop-n.invariant.0, inl (omega (arith, c.loop-n.invariant.1)))
-      | then-loop-n-test+in_default w ↦ (
-        ap (λ (l : List Bytes). take c.loop-n.n (map (λ x. x.now) c.loop-n.at) ++ l) (ap pieces_left w.pieces-is ∙ w.in_default.ensures.1 ∙ sym w.in_default.ensures.0) ∙ c.loop-n.invariant.0,
-        inr (ap pieces_left w.pieces-is ∙ w.in_default.ensures.1),
-      )
-    ]
+pub loop-i-preserved : goal.loop-i-preserved
+loop-i-preserved c =
+    let fs = fields c.args.bytes.now in
+    let xs = map (λ x. x.now) c.loop-i.at in
+    let s = c.in-Some.ensures.steps in
+    let f = filled_as refl s.0 (sym c.loop-i.invariant.2 ∙ sym s.1) c.loop-i.invariant.3 in
+    let g : Filled fs (map (λ x. x.now) c.if-i-lt5.at) (pieces_left c.next.new.self.iter) (c.in-Some.i + 1) = elim c.if-i-lt5.branch [
+      | then-i-lt5 w ↦
+          let at = ap (map (λ x. x.now)) w.at-is ∙ map-set (λ x. x.now) c.loop-i.at c.in-Some.i c.in-Some.piece in
+          filled_as (sym at) refl refl (filled_more fs xs c.in-Some.piece.now (pieces_left c.next.new.self.iter) c.in-Some.i f w.if-i-lt5.true)
+      | else-i-lt5 w ↦
+          filled_as (sym (ap (map (λ x. x.now)) w.at-is)) refl refl (filled_past fs xs c.in-Some.piece.now (pieces_left c.next.new.self.iter) c.in-Some.i f w.if-i-lt5.false)
+    ] in
+    ((tt, tt, inl (omega (arith, s.2, g.seen, parted_len tab c.args.bytes.now, c.well_formed))), tt, s.2 ∙ ap (λ n. n + 1) (sym s.1), g)
 
-counted : (c : goal.After-count) → c.loop-n.n + c.count.result ≡ length (fields c.args.bytes.now)
-counted c =
-    ap (λ (k : ℕ). c.loop-n.n + k) c.count.ensures ∙ filled_len (map (λ x. x.now) c.loop-n.at) c.loop-n.n (pieces_left c.loop-n-test.pieces) (fields c.args.bytes.now) (omega (arith, c.loop-n.invariant.1, c.loop-n.invariant.2)) (ended c).0
+pub returns-clause-first : goal.returns-clause-first
+returns-clause-first c =
+    let fs = fields c.args.bytes.now in
+    (filled_end fs (map (λ x. x.now) c.loop-i.at) c.loop-i.count (filled_as refl c.in-None.ensures.steps.0.0 refl c.loop-i.invariant.3)).1
 
-pub overflow_add-result : goal.overflow_add-result
-overflow_add-result c = omega (arith, counted c, parted_len tab c.args.bytes.now, c.well_formed)
-
-pub returns : goal.returns
-returns c = record {
-  first = ap (λ (k : ℕ). take (c.loop-n.n + k) (map (λ x. x.now) c.loop-n.at)) c.count.ensures
-      ∙ filled-all (map (λ x. x.now) c.loop-n.at) c.loop-n.n 5 (pieces_left c.loop-n-test.pieces) (fields c.args.bytes.now) c.loop-n.invariant.2 c.loop-n.invariant.1 (ended c).0 (ended c).1;
-  count = counted c;
-  len = refl;
-}
+pub returns-clause-count : goal.returns-clause-count
+returns-clause-count c =
+    let fs = fields c.args.bytes.now in
+    (filled_end fs (map (λ x. x.now) c.loop-i.at) c.loop-i.count (filled_as refl c.in-None.ensures.steps.0.0 refl c.loop-i.invariant.3)).0

@@ -1,10 +1,10 @@
-use Rattle.std.proofs.Common.{◌≡◌, ◌-◌, ◌≤◌, ◌++◌, map, length, take}
+use Rattle.std.proofs.Common.{◌≡◌, map}
 use Rattle.fields.specs.Text.{fields}
 use Rattle.fields.specs.Held.{pieces_left}
+use Rattle.fields.proofs.Lists.{Filled}
 use Rattle.fields.proofs.line.Line.cut.Given as goal
 
-abbrev pub invariant-loop-n : goal.invariant-loop-n
-invariant-loop-n l = (take l.n (map (λ x. x.now) l.at) ++ pieces_left l.pieces ≡ fields l.bytes) × (l.n ≤ 5) × (length (map (λ x. x.now) l.at) ≡ 5)
-
-abbrev pub decreases-loop-n : goal.decreases-loop-n
-decreases-loop-n l = 5 - l.n
+abbrev pub invariant-loop-i : goal.invariant-loop-i
+invariant-loop-i l =
+    (goal.iterator-loop-i).can_next l.i-iterator × (goal.iterator-loop-i).is_finite l.i-iterator
+    × (l.i-iterator.count ≡ l.count) × Filled (fields l.bytes) (map (λ x. x.now) l.at) (pieces_left l.i-iterator.iter) l.count
