@@ -1,5 +1,2 @@
-pub mod Places
 mod Ranks
-mod Fews
 mod Indices
-mod Rungs

@@ -1,5 +1,5 @@
 -- what the entries of the tables mean
-use Rattle.std.specs.Prelude.{◌≡◌, ℕ, ◌<◌, ◌≤◌, cond, List, [], ◌∷◌, ◌++◌, map, length, Some, None, Option, nat_lt}
+use Rattle.std.specs.Prelude.{cond, List, [], ◌∷◌, ◌++◌, map, length, Some, None, Option, nat_lt}
 use Rattle.fields.specs.Held.{name_text}
 use Rattle.fields.specs.Text.{Bytes}
 use Rattle.theory.specs.Model as model
@@ -43,8 +43,3 @@ task_ranks ts = map rank (map task_entry ts)
 -- the action or the task of a name
 abbrev pub symbol_in : List Action → List Task → Bytes → Option Subtask
 symbol_in actions tasks n = or_task (index_of n (map action_name actions)) (index_of n (map task_name tasks))
-
--- the place that an entry was found at, or how many there are
-pub record Place (found : Option ℕ) (size place : ℕ) : Type 0 where
-  pub hit : place < size → found ≡ Some place
-  pub miss : size ≤ place → found ≡ None

@@ -1,4 +1,4 @@
-ghost use Rattle.std.specs.Prelude.{◌≡◌, ◌&&◌};
+ghost use Rattle.std.specs.Prelude.{◌≡◌};
 ghost use Rattle.theory.specs.Lists.{all};
 ghost use Rattle.theory.specs.Model.{level_of};
 ghost use Rattle.theory.specs.Rules as rules;
@@ -13,29 +13,21 @@ fn vanishes(tasks: &[Task], subtask: Subtask) -> bool
 {
     match subtask {
         Subtask::Primitive(_) => false,
-        Subtask::Compound(t) => t < tasks.len() && tasks[t].vanishes,
+        Subtask::Compound(t) => tasks.get(t).is_some_and(|task| task.vanishes),
     }
 }
 
 fn all_vanish(tasks: &[Task], subtasks: &[Subtask]) -> bool
     ensures { result ≡ all (rules.vanishes (task_ranks tasks.now)) subtasks.now }
 {
-    for s in subtasks {
-        if !vanishes(tasks, *s) {
-            return false;
-        }
-    }
-    true
+    subtasks.iter().all(|s| vanishes(tasks, *s))
 }
 
 // The level of a task; 0 where there is none.
 fn level(tasks: &[Task], t: usize) -> u32
     ensures { result ≡ level_of (task_ranks tasks.now) t }
 {
-    if t >= tasks.len() {
-        return 0;
-    }
-    tasks[t].level
+    tasks.get(t).map_or(0, |task| task.level)
 }
 
 fn below(tasks: &[Task], top: u32, subtask: Subtask) -> bool
@@ -73,17 +65,13 @@ pub fn keeps_ladder(tasks: &[Task], owner: usize, subtasks: &[Subtask]) -> bool
 {
     let top = level(tasks, owner);
     let mut before = true;
-    for i in 0..subtasks.len() {
-        if !rung(tasks, top, before, subtasks[i], &subtasks[i + 1..]) {
+    let mut rest = subtasks;
+    while let Some((subtask, after)) = rest.split_first() {
+        if !rung(tasks, top, before, *subtask, after) {
             return false;
         }
-        before = both(before, vanishes(tasks, subtasks[i]));
+        before = before && vanishes(tasks, *subtask);
+        rest = after;
     }
     true
-}
-
-fn both(a: bool, b: bool) -> bool
-    ensures { result ≡ a && b }
-{
-    a && b
 }

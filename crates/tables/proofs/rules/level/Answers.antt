@@ -1,13 +1,6 @@
-use Rattle.std.proofs.Common.{sym, ap, ◌∙◌}
-use Rattle.theory.specs.Model.{Task}
-use Rattle.tables.specs.declared.entries.Task.{Task as Entry}
-use Rattle.tables.proofs.Ranks.{rank-at, rank-past}
+use Rattle.std.proofs.Common.{rules}
+use Rattle.tables.proofs.Ranks.{asked}
 use Rattle.tables.proofs.rules.level.Goals as goal
 
-pub returns-then-t-tasks : goal.returns-then-t-tasks
-returns-then-t-tasks c = sym (ap (λ (t : Task). t.level) (rank-past c.args.tasks.now c.args.t c.if-t-tasks.true))
-
 pub returns : goal.returns
-returns c =
-    ap (λ (t : Entry). t.level) (sym c.index-tasks-t.is)
-    ∙ sym (ap (λ (t : Task). t.level) (rank-at c.args.tasks.now c.args.t c.index-tasks-t.result c.if-t-tasks.false c.index-tasks-t.is))
+returns c = asked c.args.tasks.now c.args.t (λ k. k.level) c.map_or.result c.get.result _ c.get.ensures.lookup.0 c.get.ensures.lookup.1 c.map_or.ensures (λ x p. search rules)
