@@ -1,13 +1,6 @@
 -- the last of the methods
-use Rattle.std.proofs.Common.{◌≡◌, ℕ, zero, suc, ◌-◌, ◌<◌, ◌≤◌, T, leb, List, [], ◌∷◌, map, length, get_or, set, refl, ap, ◌∙◌, arith, le→leb, leb→le}
-use Rattle.theory.specs.Lists.{all}
-use Rattle.theory.specs.Model.{Method, no_method}
-use Rattle.theory.proofs.Lists.{and_both}
-use Rattle.reading.specs.Lines.{arity}
-use Rattle.reading.specs.Sound.{sound, method_sound}
-use Rattle.reading.specs.Tables.{Tables, ranks, last_or, on_last}
-use Rattle.reading.proofs.Alls.{all_sub}
-use Rattle.reading.proofs.Parts.{sound-parts, method_parts}
+use Rattle.std.proofs.Common.{◌≡◌, ℕ, zero, suc, ◌-◌, ◌<◌, List, [], ◌∷◌, map, length, get_or, set, refl, ap, ◌∙◌, arith}
+use Rattle.reading.specs.Tables.{last_or, on_last}
 
 pub last_at : {A B : Type 0} (f : A → B) (d : B) (xs : List A) (x : A) → 0 < length xs → x ≡ get_or xs (length xs - 1) x → last_or d (map f xs) ≡ f x
 last_at f d [] x h e = absurd (omega arith)
@@ -35,12 +28,3 @@ pub set_same : {A B : Type 0} (f : A → B) (xs : List A) (i : ℕ) (y d : A) �
 set_same f [] i y d e = refl
 set_same f (x ∷ xs) zero y d e = ap (λ (z : _). z ∷ map f xs) e
 set_same f (x ∷ xs) (suc i) y d e = ap (λ (ws : List _). f x ∷ ws) (set_same f xs i y d e)
-
-last_few : (d : Method) (ms : List Method) → length d.subtasks ≤ 4 → T (all (λ (m : Method). leb (length m.subtasks) 4) ms) → length (last_or d ms).subtasks ≤ 4
-last_few d [] k h = k
-last_few d (m ∷ ms) k h = let a = and_both (leb (length m.subtasks) 4) _ h in last_few m ms (leb→le _ _ a.0) a.1
-
-pub arity-few : (t : Tables) → T (sound t) → arity t ≤ 4
-arity-few t h =
-    let few : (m : Method) → T (method_sound (length t.facts) (length t.actions) (ranks t) m) → T (leb (length m.subtasks) 4) = λ m k. le→leb _ _ (method_parts _ _ _ m k).few in
-    last_few no_method t.methods (omega arith) (all_sub _ _ few t.methods (sound-parts t h).ways)

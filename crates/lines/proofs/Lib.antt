@@ -3,3 +3,4 @@ mod Rooms
 mod Takes
 mod Lasts
 mod Entries
+mod Pushes

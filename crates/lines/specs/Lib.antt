@@ -1,3 +1,4 @@
 pub mod Closes
+pub mod Names
 pub mod Took
 pub mod Entries

@@ -1,4 +1,4 @@
-ghost use Rattle.std.specs.Prelude.{◌≡◌};
+ghost use Rattle.std.specs.Prelude.{◌≡◌, ◌≤◌, length};
 ghost use Rattle.std.specs.Option.{option_map};
 ghost use Rattle.tables.specs.Held.{few_items, grown};
 
@@ -14,7 +14,8 @@ pub enum Few<T> {
 
 impl<T: Copy> Few<T> {
     pub fn as_slice(&self) -> &[T]
-        ensures { result.now ≡ few_items self.now }
+        ensures items { result.now ≡ few_items self.now }
+        ensures few { length result.now ≤ 4 }
     {
         match self {
             Few::Zero => &[],

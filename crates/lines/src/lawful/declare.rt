@@ -1,13 +1,21 @@
-ghost use Rattle.std.specs.Prelude.{◌≡◌, IfOk};
+ghost use Rattle.std.specs.Prelude.{◌≡◌, ◌<◌, IfOk};
+ghost use Rattle.reading.specs.Lines as plain;
 ghost use Rattle.reading.specs.Tables.{empty};
+ghost use Rattle.reading.specs.declared.kinds.Kind.TheVariants as kind;
+ghost use Rattle.fields.specs.Held.{answered};
+ghost use Rattle.tables.specs.Held.{action_entry};
 ghost use Rattle.lines.specs.Closes.{meant};
-ghost use Rattle.lines.specs.Took.{Declares};
+ghost use Rattle.lines.specs.Entries.{action_in};
+ghost use Rattle.lines.specs.Took.{Declares, fact_set};
 
 use crate::filled::Tables;
 use crate::lawful::LawfulTables;
+use crate::names::room;
 use fields::Line;
 use reading::{DomainFault, Kind};
 use std::alloc::{AllocError, Global};
+use tables::Action;
+use theory::Constraint;
 
 impl LawfulTables {
     // Empty tables, with room for all that a domain may hold.
@@ -23,14 +31,115 @@ impl LawfulTables {
         ensures { Declares result self.old.tables self.new.tables kind line.now }
     {
         match kind {
-            Kind::Fact => self.tables.fact_line(line),
-            Kind::Action => self.tables.action_line(line),
-            Kind::Task => self.tables.task_line(line),
-            Kind::Method => self.tables.method_line(line),
-            Kind::Before => self.tables.before_line(line),
-            Kind::After => self.tables.after_line(line),
-            Kind::Between => self.tables.between_line(line),
+            Kind::Fact => self.fact_line(line),
+            Kind::Action => self.action_line(line),
+            Kind::Task => self.task_line(line),
+            Kind::Method => self.method_line(line),
+            Kind::Before => self.before_line(line),
+            Kind::After => self.after_line(line),
+            Kind::Between => self.between_line(line),
             Kind::Closing => Ok(()),
         }
     }
+
+    fn fact_line(&mut self, line: &Line) -> Result<(), DomainFault>
+        ensures { Declares result self.old.tables self.new.tables kind.Fact line.now }
+    {
+        let name = self.tables.new_fact(line, 2)?;
+        room(self.tables.facts.as_slice(), 64)?;
+        self.tables.facts.push_reserved(name);
+        Ok(())
+    }
+
+    // The set of the facts that a field lists.
+    fn fact_set(&self, line: &Line, k: u8) -> Result<u64, DomainFault>
+        ensures { result ≡ fact_set self.now.tables line.now k }
+    {
+        let mut set = 0;
+        for name in line.list(k)? {
+            let Some(f) = self.tables.fact(name) else {
+                return Err(DomainFault::Undeclared(k));
+            };
+            set = with_fact(set, f);
+        }
+        Ok(set)
+    }
+
+    // The action that a line declares.
+    fn action(&self, line: &Line) -> Result<Action, DomainFault>
+        ensures { answered action_entry result ≡ action_in self.now.tables line.now }
+    {
+        let name = self.tables.new_symbol(line, 2)?;
+        let needs = self.fact_set(line, 3)?;
+        let adds = self.fact_set(line, 4)?;
+        let deletes = self.fact_set(line, 5)?;
+        Ok(Action {
+            name,
+            needs,
+            adds,
+            deletes,
+        })
+    }
+
+    fn action_line(&mut self, line: &Line) -> Result<(), DomainFault>
+        ensures { Declares result self.old.tables self.new.tables kind.Action line.now }
+    {
+        let action = self.action(line)?;
+        room(self.tables.actions.as_slice(), 64)?;
+        if action.adds & action.deletes != 0 {
+            return Err(DomainFault::Clash);
+        }
+        self.tables.actions.push_reserved(action);
+        Ok(())
+    }
+
+    fn task_line(&mut self, line: &Line) -> Result<(), DomainFault>
+        ensures { Declares result self.old.tables self.new.tables kind.Task line.now }
+    {
+        let task = self.tables.task(line)?;
+        room(self.tables.tasks.as_slice(), 48)?;
+        self.tables.tasks.push_reserved(task);
+        Ok(())
+    }
+
+    fn method_line(&mut self, line: &Line) -> Result<(), DomainFault>
+        ensures { Declares result self.old.tables self.new.tables kind.Method line.now }
+    {
+        let method = self.tables.method(line)?;
+        room(self.tables.methods.as_slice(), 128)?;
+        self.tables.ruled(&method)?;
+        self.tables.methods.push_reserved(method);
+        Ok(())
+    }
+
+    fn before_line(&mut self, line: &Line) -> Result<(), DomainFault>
+        ensures { Declares result self.old.tables self.new.tables kind.Before line.now }
+    {
+        let before = |position, fact| Constraint::Before { position, fact };
+        let constraint = self.tables.placed(line, before)?;
+        self.tables.constrain(constraint)
+    }
+
+    fn after_line(&mut self, line: &Line) -> Result<(), DomainFault>
+        ensures { Declares result self.old.tables self.new.tables kind.After line.now }
+    {
+        let after = |position, fact| Constraint::After { position, fact };
+        let constraint = self.tables.placed(line, after)?;
+        self.tables.constrain(constraint)
+    }
+
+    fn between_line(&mut self, line: &Line) -> Result<(), DomainFault>
+        ensures { Declares result self.old.tables self.new.tables kind.Between line.now }
+    {
+        let constraint = self.tables.between(line)?;
+        self.tables.constrain(constraint)
+    }
+}
+
+// The set with one fact more.
+fn with_fact(set: u64, f: usize) -> u64
+    requires { f < 64 }
+    ensures { result ≡ plain.with_fact set f }
+{
+    set | (1 << f)
 }

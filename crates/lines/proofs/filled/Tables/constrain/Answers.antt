@@ -7,8 +7,7 @@ use Rattle.reading.proofs.Checks.{pass, fail}
 use Rattle.tables.specs.Held.{few_items, method_entry}
 use Rattle.tables.specs.declared.entries.Method.{Method}
 use Rattle.lines.specs.Closes.{meant}
-use Rattle.lines.proofs.Closing.{closed_roomy}
-use Rattle.lines.proofs.Lasts.{last_at, last_none, on_none, set_last, set_same}
+use Rattle.lines.proofs.Lasts.{last_at, set_last, set_same}
 use Rattle.lines.proofs.Takes.{with_some, with_none}
 use Rattle.lines.proofs.filled.Tables.constrain.Goals as goal
 
@@ -22,16 +21,6 @@ module _ (xs : List Method) (n : ℕ) (m : Method) (len : n ≡ length xs) (some
   room-is : ltb (length (last_or no_method (map method_entry xs)).constraints) 4 ≡ ltb (length (few_items m.constraints)) 4
   room-is = ap (λ (w : Way). ltb (length w.constraints) 4) last_is
 
-pub returns-in_default : goal.returns-in_default
-returns-in_default c =
-    let t = meant c.args.self.now in
-    let v = c.args.self.now.methods in
-    let h : length (vec_items v) ≡ 0 = omega (arith, c.in_default.ensures.item.3) in (
-      pass Full (ap (λ (w : Way). ltb (length w.constraints) 4) (last_none method_entry no_method (vec_items v) h))
-          (ap (λ (ms : List Way). Ok (record { facts = t.facts; actions = t.actions; tasks = t.tasks; methods = ms })) (on_none method_entry (constrained c.args.c) (vec_items v) h)),
-      closed_roomy c.args.self.now c.requires,
-    )
-
 pub returns-in_default-with : goal.returns-in_default-with
 returns-in_default-with c =
     let t = meant c.args.self.now in
@@ -40,7 +29,7 @@ returns-in_default-with c =
     let m : Method = c.in-Some.method.now in (
       fail Full _ (room-is (vec_items v) (vec_len v) m v.ok.0 (f.variant.0 refl) f.value ∙ with_none _ _ c.in_default-with.ensures),
       ap (λ (ms : List Way). record { facts = t.facts; actions = t.actions; tasks = t.tasks; methods = ms }) (set_same method_entry (vec_items v) (vec_len v - 1) m m (ap method_entry f.value)),
-      closed_roomy c.args.self.now c.requires,
+      c.requires,
     )
 
 pub returns : goal.returns
@@ -56,5 +45,5 @@ returns c =
           (sym (set_last method_entry (constrained c.args.c) (vec_items v) (vec_len v - 1) _ m h
           (ap (λ (l : List Constraint). record { owner = m.task; price = m.price; grade = m.grade; subtasks = few_items m.subtasks; constraints = l }) w.0
           ∙ ap (λ (x : Method). constrained c.args.c (method_entry x)) f.value)))),
-      closed_roomy c.args.self.now c.requires,
+      c.requires,
     )

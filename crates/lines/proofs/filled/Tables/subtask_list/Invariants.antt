@@ -9,8 +9,6 @@ use Rattle.lines.proofs.filled.Tables.subtask_list.Given as goal
 
 abbrev pub invariant-loop-name : goal.invariant-loop-name
 invariant-loop-name l =
-    (subtask_list (meant l.self) (line_fields l.line) l.k ≡ taking with_last (symbol_of (meant l.self)) (Undeclared l.k) (few_items l.subtasks) (pieces_left l.names))
-    × (length (few_items l.subtasks) + length (pieces_left l.names) ≤ 4)
-
-abbrev pub decreases-loop-name : goal.decreases-loop-name
-decreases-loop-name l = length (pieces_left l.names)
+    (goal.iterator-loop-name).can_next l.name-iterator × (goal.iterator-loop-name).is_finite l.name-iterator
+    × (subtask_list (meant l.self) (line_fields l.line) l.k ≡ taking with_last (symbol_of (meant l.self)) (Undeclared l.k) (few_items l.subtasks) (pieces_left l.name-iterator))
+    × (length (few_items l.subtasks) + length (pieces_left l.name-iterator) ≤ 4)

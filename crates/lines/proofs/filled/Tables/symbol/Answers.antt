@@ -2,7 +2,7 @@ use Rattle.std.proofs.Common.{List, map, vec_items, sym, ap, ◌∙◌, ap₂}
 use Rattle.fields.specs.Text.{Bytes}
 use Rattle.reading.specs.Tables.{index_of, or_task, ActionEntry, TaskEntry}
 use Rattle.tables.specs.Held.{action_name, task_name, action_entry, task_entry}
-use Rattle.tables.proofs.Places.{map-map}
+use mathlib.Core.List.{map-map}
 use Rattle.lines.proofs.filled.Tables.symbol.Goals as goal
 
 pub returns : goal.returns
