@@ -123,18 +123,8 @@ impl Reader {
 fn kind_of(field: &[u8]) -> Result<Kind, LineFault>
     ensures { result ≡ kind_in field.now }
 {
-    let [b] = field else {
-        return Err(LineFault::Letter);
-    };
-    match char::from(*b) {
-        'F' => Ok(Kind::Fact),
-        'A' => Ok(Kind::Action),
-        'T' => Ok(Kind::Task),
-        'M' => Ok(Kind::Method),
-        'B' => Ok(Kind::Before),
-        'P' => Ok(Kind::After),
-        'K' => Ok(Kind::Between),
-        'E' => Ok(Kind::Closing),
+    match field {
+        [letter] => Kind::try_from(char::from(*letter)),
         _ => Err(LineFault::Letter),
     }
 }

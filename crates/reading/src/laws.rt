@@ -3,36 +3,26 @@ ghost use Rattle.reading.specs.Laws.{FirstFaultStays, ClosedStays, ClosedIsSound
 ghost use Rattle.reading.specs.Examples.{Examples};
 
 // Once a line is refused before the closing line, each further line gets that fault.
-pub fn first_fault_stays() -> u8
+pub fn first_fault_stays()
     ensures { FirstFaultStays }
-{
-    0
-}
+{}
 
 // After the closing line each line gets the letter fault, and the tables stay.
-pub fn closed_stays() -> u8
+pub fn closed_stays()
     ensures { ClosedStays }
-{
-    0
-}
+{}
 
 // A closed domain keeps the mark rule, the ladder rule and the ranges of all that it refers to.
-pub fn closed_is_sound() -> u8
+pub fn closed_is_sound()
     ensures { ClosedIsSound }
-{
-    0
-}
+{}
 
 // A text is accepted and closes with these tables exactly when it declares them.
-pub fn text_declares() -> u8
+pub fn text_declares()
     ensures { TextDeclares }
-{
-    0
-}
+{}
 
 // Small texts: which are refused, with which fault, and which are accepted.
-pub fn examples_hold() -> u8
+pub fn examples_hold()
     ensures { Examples }
-{
-    0
-}
+{}

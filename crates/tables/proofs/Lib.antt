@@ -1,2 +1,3 @@
 mod Ranks
 mod Indices
+pub mod Names

@@ -1,13 +1,11 @@
-use Rattle.std.proofs.Common.{List, map, vec_items, sym, ap, ◌∙◌, ap₂}
-use Rattle.fields.specs.Text.{Bytes}
-use Rattle.reading.specs.Tables.{index_of, or_task, ActionEntry, TaskEntry}
-use Rattle.tables.specs.Held.{action_name, task_name, action_entry, task_entry}
-use mathlib.Core.List.{map-map}
+use Rattle.std.proofs.Common.{List, vec_items, ap₂, ◌∙◌}
+use Rattle.tables.specs.Held.{symbol_in}
+use Rattle.tables.specs.declared.entries.Action.{Action}
+use Rattle.tables.specs.declared.entries.Task.{Task}
+use Rattle.tables.proofs.Names.{symbol_in_lem}
 use Rattle.lines.proofs.filled.Tables.symbol.Goals as goal
 
 pub returns : goal.returns
 returns c =
-    let n : Bytes = c.args.name.now in
-    let a = ap (map action_name) c.as_slice.ensures.value ∙ sym (map-map (λ (e : ActionEntry). e.name) action_entry (vec_items c.args.self.now.actions)) in
-    let t = ap (map task_name) c.as_slice-2.ensures.value ∙ sym (map-map (λ (e : TaskEntry). e.name) task_entry (vec_items c.args.self.now.tasks)) in
-    c.find_symbol.ensures ∙ ap₂ (λ (x y : List Bytes). or_task (index_of n x) (index_of n y)) a t
+    c.find_symbol.ensures
+    ∙ ap₂ (λ (xs : List Action) (ts : List Task). symbol_in xs ts c.args.name.now) c.as_slice.ensures.value c.as_slice-2.ensures.value ∙ symbol_in_lem (vec_items c.args.self.now.actions) (vec_items c.args.self.now.tasks) c.args.name.now
