@@ -40,10 +40,10 @@ impl Tally for Grade {
     }
 
     fn times(&self, a: Option<Licence>, b: Option<Licence>) -> Option<Licence> {
-        Some(a?.larger(b?))
+        Some(a?.max(b?))
     }
 
     fn weight(&self, _task: usize, _price: u32, grade: u32) -> Option<Licence> {
-        Some(UpTo::new(grade as u64))
+        Some(UpTo::new(u64::from(grade)))
     }
 }

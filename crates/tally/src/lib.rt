@@ -7,6 +7,7 @@ mod laws;
 mod numbers;
 mod pairs;
 mod prices;
+mod text;
 mod verdicts;
 
 pub use counts::{Count, Trees};

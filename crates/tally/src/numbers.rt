@@ -3,7 +3,7 @@ ghost use Rattle.std.specs.Prelude.{◌≤◌};
 pub(crate) mod joins;
 
 // A number up to the top.
-#[derive(Clone, Copy)]
+#[derive(Clone, Copy, PartialEq, Eq, PartialOrd, Ord)]
 pub struct UpTo<const TOP: u32> {
     value: u32,
     ghost within: { value ≤ TOP },

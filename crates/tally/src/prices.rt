@@ -44,6 +44,6 @@ impl Tally for Price {
     }
 
     fn weight(&self, _task: usize, price: u32, _grade: u32) -> Option<Amount> {
-        Some(UpTo::new(price as u64))
+        Some(UpTo::new(u64::from(price)))
     }
 }
