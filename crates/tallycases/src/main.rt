@@ -5,16 +5,17 @@ ghost use Rattle.theory.specs.Tallies.{stop};
 ghost use Rattle.tally.specs.Means.{number_or_none};
 
 mod ends;
+mod methods;
 mod shown;
 mod sums;
-mod table;
+mod tables;
 
 use ends::Ends;
 use ends::first::FirstEnds;
 use shown::Shown;
 use std::io;
 use sums::pair_sum;
-use table::{Terms, print_lists, print_table, print_weights};
+use tables::Tables;
 use tally::{Answer, Count, Grade, Pair, Price, UpTo, Verdict};
 
 // Prints the operations of every tally at the edges of its values, and sums and products of lists.
@@ -27,81 +28,6 @@ fn main(rt: HostRuntime) -> io::Result<()> {
     print_ends(&rt)
 }
 
-// Methods at the edges of prices and grades.
-const METHODS: [Terms; 7] = [
-    Terms {
-        task: 0,
-        price: 0,
-        grade: 0,
-    },
-    Terms {
-        task: 47,
-        price: 1,
-        grade: 1,
-    },
-    Terms {
-        task: 3,
-        price: 1000,
-        grade: 8,
-    },
-    Terms {
-        task: 3,
-        price: 999_999_999,
-        grade: 9,
-    },
-    Terms {
-        task: 3,
-        price: 1_000_000_000,
-        grade: 10,
-    },
-    Terms {
-        task: 3,
-        price: 1_000_000_001,
-        grade: 11,
-    },
-    Terms {
-        task: 3,
-        price: 4_294_967_295,
-        grade: 4_294_967_295,
-    },
-];
-
-fn print_verdicts(rt: &HostRuntime) -> io::Result<()> {
-    let values = [Answer::No, Answer::Yes];
-    print_table(rt, "verdict", &Verdict, &values)?;
-    print_weights(rt, "verdict", &Verdict, &METHODS)?;
-    print_lists(
-        rt,
-        "verdict",
-        &Verdict,
-        &values,
-        &[Answer::Yes],
-        Answer::Yes,
-    )
-}
-
-fn print_counts(rt: &HostRuntime) -> io::Result<()> {
-    let values = [
-        UpTo::new(0),
-        UpTo::new(1),
-        UpTo::new(1000),
-        UpTo::new(1001),
-        UpTo::new(999_999),
-        UpTo::new(1_000_000),
-        UpTo::new(1_000_001),
-    ];
-    print_table(rt, "count", &Count, &values)?;
-    print_weights(rt, "count", &Count, &METHODS)?;
-    print_lists(
-        rt,
-        "count",
-        &Count,
-        &[UpTo::new(2), UpTo::new(3)],
-        &[UpTo::new(5), UpTo::new(7)],
-        UpTo::new(11),
-    )
-}
-
 // A number that is not none.
 fn some<const TOP: u32>(value: u64) -> Option<UpTo<TOP>>
     ensures { number_or_none result ≡ Some (stop TOP value) }
@@ -109,38 +35,67 @@ fn some<const TOP: u32>(value: u64) -> Option<UpTo<TOP>>
     Some(UpTo::new(value))
 }
 
+fn print_verdicts(rt: &HostRuntime) -> io::Result<()> {
+    let values = [Answer::No, Answer::Yes];
+    let tables = Tables {
+        name: "verdict",
+        tally: &Verdict,
+        values: &values,
+        xs: &values,
+        ys: &[Answer::Yes],
+        factor: Answer::Yes,
+    };
+    tables.print(rt)
+}
+
+fn print_counts(rt: &HostRuntime) -> io::Result<()> {
+    let tables = Tables {
+        name: "count",
+        tally: &Count,
+        values: &[
+            UpTo::new(0),
+            UpTo::new(1),
+            UpTo::new(1000),
+            UpTo::new(1001),
+            UpTo::new(999_999),
+            UpTo::new(1_000_000),
+            UpTo::new(1_000_001),
+        ],
+        xs: &[UpTo::new(2), UpTo::new(3)],
+        ys: &[UpTo::new(5), UpTo::new(7)],
+        factor: UpTo::new(11),
+    };
+    tables.print(rt)
+}
+
 fn print_prices(rt: &HostRuntime) -> io::Result<()> {
-    let values = [
-        None,
-        some(0),
-        some(1),
-        some(999_999_999),
-        some(1_000_000_000),
-    ];
-    print_table(rt, "price", &Price, &values)?;
-    print_weights(rt, "price", &Price, &METHODS)?;
-    print_lists(
-        rt,
-        "price",
-        &Price,
-        &[some(20), some(30)],
-        &[some(5)],
-        some(7),
-    )
+    let tables = Tables {
+        name: "price",
+        tally: &Price,
+        values: &[
+            None,
+            some(0),
+            some(1),
+            some(999_999_999),
+            some(1_000_000_000),
+        ],
+        xs: &[some(20), some(30)],
+        ys: &[some(5)],
+        factor: some(7),
+    };
+    tables.print(rt)
 }
 
 fn print_grades(rt: &HostRuntime) -> io::Result<()> {
-    let values = [None, some(0), some(1), some(8), some(9)];
-    print_table(rt, "grade", &Grade, &values)?;
-    print_weights(rt, "grade", &Grade, &METHODS)?;
-    print_lists(
-        rt,
-        "grade",
-        &Grade,
-        &[some(4), some(2)],
-        &[some(7)],
-        some(3),
-    )
+    let tables = Tables {
+        name: "grade",
+        tally: &Grade,
+        values: &[None, some(0), some(1), some(8), some(9)],
+        xs: &[some(4), some(2)],
+        ys: &[some(7)],
+        factor: some(3),
+    };
+    tables.print(rt)
 }
 
 fn print_pairs(rt: &HostRuntime) -> io::Result<()> {
@@ -153,29 +108,29 @@ fn print_pairs(rt: &HostRuntime) -> io::Result<()> {
         (UpTo::new(3), some(30)),
         (UpTo::new(0), None),
     ];
-    print_table(rt, "pair", &pair, &values)?;
-    print_weights(rt, "pair", &pair, &METHODS)?;
-    print_lists(
-        rt,
-        "pair",
-        &pair,
-        &values,
-        &[(UpTo::new(5), some(7))],
-        (UpTo::new(2), some(1)),
-    )?;
-    let total = pair_sum(&pair, &values).shown(rt.alloc())?;
+    let tables = Tables {
+        name: "pair",
+        tally: &pair,
+        values: &values,
+        xs: &values,
+        ys: &[(UpTo::new(5), some(7))],
+        factor: (UpTo::new(2), some(1)),
+    };
+    tables.print(rt)?;
+    let total = Shown(pair_sum(&pair, &values));
     println!(rt; "pair: the values add up to {total}, part by part")
 }
 
 fn print_ends(rt: &HostRuntime) -> io::Result<()> {
     let a = Ends::Methods { first: 1, last: 2 };
     let b = Ends::Methods { first: 3, last: 4 };
-    print_table(
-        rt,
-        "ends",
-        &FirstEnds,
-        &[Ends::NoTree, Ends::NoMethod, a, b],
-    )?;
-    print_weights(rt, "ends", &FirstEnds, &METHODS)?;
-    print_lists(rt, "ends", &FirstEnds, &[Ends::NoTree, a], &[b], b)
+    let tables = Tables {
+        name: "ends",
+        tally: &FirstEnds,
+        values: &[Ends::NoTree, Ends::NoMethod, a, b],
+        xs: &[Ends::NoTree, a],
+        ys: &[b],
+        factor: b,
+    };
+    tables.print(rt)
 }

@@ -1,51 +1,48 @@
 use crate::ends::Ends;
-use std::alloc::{AllocError, Global};
+use std::fmt::{self, Display};
 use tally::{Answer, UpTo};
 
-// A value as the table prints it.
-pub(crate) trait Shown {
-    fn shown(&self, heap: Global) -> Result<String, AllocError>;
+// A value as the tables print it. Options and pairs have no text of their own.
+#[derive(Clone, Copy)]
+pub(crate) struct Shown<V>(pub(crate) V);
+
+impl Display for Shown<Answer> {
+    fn fmt<W: fmt::Write>(&self, f: &mut fmt::Formatter<W>) -> fmt::Result {
+        let Shown(answer) = self;
+        write!(f, "{answer}")
+    }
 }
 
-impl Shown for Answer {
-    fn shown(&self, heap: Global) -> Result<String, AllocError> {
-        match self {
-            Answer::No => format!(in heap; "no"),
-            Answer::Yes => format!(in heap; "yes"),
+impl<const TOP: u32> Display for Shown<UpTo<TOP>> {
+    fn fmt<W: fmt::Write>(&self, f: &mut fmt::Formatter<W>) -> fmt::Result {
+        let Shown(number) = self;
+        write!(f, "{number}")
+    }
+}
+
+impl<const TOP: u32> Display for Shown<Option<UpTo<TOP>>> {
+    fn fmt<W: fmt::Write>(&self, f: &mut fmt::Formatter<W>) -> fmt::Result {
+        match self.0 {
+            None => write!(f, "none"),
+            Some(number) => write!(f, "{number}"),
         }
     }
 }
 
-impl<const TOP: u32> Shown for UpTo<TOP> {
-    fn shown(&self, heap: Global) -> Result<String, AllocError> {
-        let value = self.value();
-        format!(in heap; "{value}")
+impl<A: Copy, B: Copy> Display for Shown<(A, B)>
+where
+    Shown<A>: Display,
+    Shown<B>: Display,
+{
+    fn fmt<W: fmt::Write>(&self, f: &mut fmt::Formatter<W>) -> fmt::Result {
+        let (first, second) = (Shown(self.0.0), Shown(self.0.1));
+        write!(f, "({first}, {second})")
     }
 }
 
-impl<const TOP: u32> Shown for Option<UpTo<TOP>> {
-    fn shown(&self, heap: Global) -> Result<String, AllocError> {
-        match self {
-            None => format!(in heap; "none"),
-            Some(number) => number.shown(heap),
-        }
-    }
-}
-
-impl<A: Shown, B: Shown> Shown for (A, B) {
-    fn shown(&self, heap: Global) -> Result<String, AllocError> {
-        let first = self.0.shown(heap)?;
-        let second = self.1.shown(heap)?;
-        format!(in heap; "({first}, {second})")
-    }
-}
-
-impl Shown for Ends {
-    fn shown(&self, heap: Global) -> Result<String, AllocError> {
-        match self {
-            Ends::NoTree => format!(in heap; "no tree"),
-            Ends::NoMethod => format!(in heap; "no method"),
-            Ends::Methods { first, last } => format!(in heap; "{first} to {last}"),
-        }
+impl Display for Shown<Ends> {
+    fn fmt<W: fmt::Write>(&self, f: &mut fmt::Formatter<W>) -> fmt::Result {
+        let Shown(ends) = self;
+        write!(f, "{ends}")
     }
 }

@@ -7,22 +7,18 @@ use tally::{Pair, Tally};
 pub(crate) fn sum<T: Tally>(tally: &T, values: &[T::Value]) -> T::Value
     ensures { T.means result ≡ sum_of T.algebra T.means values.now }
 {
-    let mut all = tally.zero();
-    for x in values {
-        all = tally.plus(all, *x);
-    }
-    all
+    values
+        .iter()
+        .fold(tally.zero(), |all, x| tally.plus(all, *x))
 }
 
 // The product of the values in their order.
 pub(crate) fn product<T: Tally>(tally: &T, values: &[T::Value]) -> T::Value
     ensures { T.means result ≡ product_of T.algebra T.means values.now }
 {
-    let mut all = tally.one();
-    for x in values {
-        all = tally.times(all, *x);
-    }
-    all
+    values
+        .iter()
+        .fold(tally.one(), |all, x| tally.times(all, *x))
 }
 
 // The sum of two lists, one after the other, by their sums.

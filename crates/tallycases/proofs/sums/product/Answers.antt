@@ -1,15 +1,16 @@
-use Rattle.std.proofs.Common.{map, ap, ◌∙◌, arith, take_all, rules}
-use Rattle.theory.specs.Algebra.{product}
-use Rattle.theory.proofs.Sums.{product-more}
+use Rattle.std.proofs.Common.{◌≡◌, ap, ◌∙◌, rules}
+use Rattle.std.proofs.lemmas.Fn.{fold_over, fronts, slice_gives}
+use Rattle.tallycases.specs.Lists.{product_of}
+use Rattle.tallycases.proofs.Lists.{product_push}
 use Rattle.tallycases.proofs.sums.product.Goals as goal
-
-pub loop-x-preserved : goal.loop-x-preserved
-loop-x-preserved g c =
-    let m = g.T.Tally in
-    let joined = rw c.loop-x.invariant.1 at c.times-all.ensures in
-    (omega arith, joined ∙ product-more m.algebra m.laws m.means c.args.values.now c.loop-x.x-index _ c.loop-x-test.true (search rules))
 
 pub returns : goal.returns
 returns g c =
     let m = g.T.Tally in
-    c.loop-x.invariant.1 ∙ ap (λ zs. product m.algebra (map m.means zs)) (take_all _ _ c.loop-x-test.false)
+    let ended =
+    fold_over fronts (λ y. y.now) _ (λ ys a. m.means a ≡ product_of m.algebra m.means ys) _
+    (λ ys a x b f kept called. let joined : m.means b ≡ m.algebra.times (m.means a) (m.means x.now) = search rules in
+    (cc (product_push m.algebra m.laws m.means ys x.now), search rules))
+    c.iter.result _ _ _ (slice_gives c.iter.result) c.one.ensures c.fold.ensures.ran
+    in
+    ended ∙ ap (product_of m.algebra m.means) c.iter.ensures.rest
