@@ -1,13 +1,27 @@
--- One more value at the end of a list.
-use Rattle.std.proofs.Common.{◌≡◌, List, [], ◌∷◌, ◌++◌, map, ap, ◌∙◌}
-use mathlib.Core.List.{map-append}
-use Rattle.theory.specs.Algebra.{Algebra, Laws, sum, product}
-use Rattle.theory.proofs.Sums.{sum_append, product_append}
-use Rattle.tallycases.specs.Lists.{sum_of, product_of}
+-- What a fold over a slice comes to, where each call joins one more value.
+use Rattle.std.proofs.Common.{◌≡◌, List, [], ◌∷◌, ◌++◌, map, Bor, Iter, sym, ap, ◌∙◌}
+use denote.Param.Members.{Mut}
+use Rattle.std.specs.Fn.{Called}
+use Rattle.std.specs.Iterator.{Drains}
+use Rattle.std.specs.List.{FoldsTo}
+use Rattle.std.proofs.lemmas.Fn.{fold_over, fronts, slice_gives}
+use Rattle.theory.specs.Algebra.{joined}
 
-module _ {V M : Type 0} (A : Algebra M) (laws : Laws A) (means : V → M) (ys : List V) (x : V) where
-  pub sum_push : sum_of A means (ys ++ (x ∷ [])) ≡ A.plus (sum_of A means ys) (means x)
-  sum_push = ap (sum A) (map-append means ys (x ∷ [])) ∙ sum_append A laws (map means ys) (means x ∷ []) ∙ ap (A.plus (sum A (map means ys))) (laws.plus_zero (means x))
+module _ {V M : Type 0} (means : V → M) (join : M → M → M) (neutral : M)
+    (assoc : (x y z : M) → join (join x y) z ≡ join x (join y z)) (left : (x : M) → join neutral x ≡ x) (right : (x : M) → join x neutral ≡ x) where
+  abbrev total : List V → M
+  total ys = joined join neutral (map means ys)
 
-  pub product_push : product_of A means (ys ++ (x ∷ [])) ≡ A.times (product_of A means ys) (means x)
-  product_push = ap (product A) (map-append means ys (x ∷ [])) ∙ product_append A laws (map means ys) (means x ∷ []) ∙ ap (A.times (product A (map means ys))) (laws.times_one (means x))
+  push : (ys : List V) (x : V) → total (ys ++ (x ∷ [])) ≡ join (total ys) (means x)
+  push [] x = right (means x) ∙ sym (left (means x))
+  push (y ∷ ys) x = ap (join (means y)) (push ys x) ∙ sym (assoc (means y) (total ys) (means x))
+
+  pub fold_joins : {F : Type 0} (g : Mut F (V × (Bor V × Unit {0})) V) (f : F)
+      → ((a : V) (x : Bor V) (b : V) (f' : F) → Called g f (a, (x, tt)) b f' → (means b ≡ join (means a) (means x.now)) × (f' ≡ f))
+      → (s : Iter V) (a r : V) → means a ≡ neutral
+      → (xs : List (Bor V)) × (f' : F) × Drains fronts s xs × FoldsTo {P = F × V} (λ p x q. Called g p.0 (p.1, (x, tt)) q.1 q.0) (f, a) xs (f', r)
+      → means r ≡ joined join neutral (map means s.rest.now)
+  fold_joins g f step s a r =
+      fold_over fronts (λ y. y.now) g (λ ys a. means a ≡ total ys) f
+      (λ ys a x b f' kept called. let one = step a x b f' called in (one.0 ∙ ap (λ k. join k (means x.now)) kept ∙ sym (push ys x.now), one.1))
+      s s.rest.now a r (slice_gives s)

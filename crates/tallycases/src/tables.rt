@@ -20,7 +20,7 @@ pub(crate) struct Tables<'a, T: Tally> {
     pub(crate) factor: T::Value,
 }
 
-impl<'a, T: Tally + Drop> Tables<'a, T>
+impl<T: Tally + Drop> Tables<'_, T>
 where
     Shown<T::Value>: Display,
 {
@@ -32,8 +32,9 @@ where
 
     // Prints the zero and the one, and plus and times of each two of the values.
     fn print_operations(&self, rt: &HostRuntime) -> io::Result<()> {
+        let name = self.name;
         let (zero, one) = (Shown(self.tally.zero()), Shown(self.tally.one()));
-        println!(rt; "{}: zero {zero}, one {one}", self.name)?;
+        println!(rt; "{name}: zero {zero}, one {one}")?;
         for a in self.values {
             for b in self.values {
                 self.print_joins(rt, *a, *b)?;

@@ -43,7 +43,7 @@ impl Tally for FirstEnds {
             (Ends::NoMethod, _) => b,
             (_, Ends::NoTree) => b,
             (_, Ends::NoMethod) => a,
-            (Ends::Methods { first, last: _ }, Ends::Methods { first: _, last }) => Ends::Methods {
+            (Ends::Methods { first, .. }, Ends::Methods { last, .. }) => Ends::Methods {
                 first,
                 last,
             },

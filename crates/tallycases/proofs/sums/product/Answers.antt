@@ -1,16 +1,11 @@
-use Rattle.std.proofs.Common.{◌≡◌, ap, ◌∙◌, rules}
-use Rattle.std.proofs.lemmas.Fn.{fold_over, fronts, slice_gives}
+use Rattle.std.proofs.Common.{ap, ◌∙◌, rules}
 use Rattle.tallycases.specs.Lists.{product_of}
-use Rattle.tallycases.proofs.Lists.{product_push}
+use Rattle.tallycases.proofs.Lists.{fold_joins}
 use Rattle.tallycases.proofs.sums.product.Goals as goal
 
 pub returns : goal.returns
 returns g c =
     let m = g.T.Tally in
-    let ended =
-    fold_over fronts (λ y. y.now) _ (λ ys a. m.means a ≡ product_of m.algebra m.means ys) _
-    (λ ys a x b f kept called. let joined : m.means b ≡ m.algebra.times (m.means a) (m.means x.now) = search rules in
-    (cc (product_push m.algebra m.laws m.means ys x.now), search rules))
-    c.iter.result _ _ _ (slice_gives c.iter.result) c.one.ensures c.fold.ensures.ran
-    in
-    ended ∙ ap (product_of m.algebra m.means) c.iter.ensures.rest
+    let l = m.laws in
+    fold_joins m.means m.algebra.times m.algebra.one l.times_assoc l.one_times l.times_one _ _ (λ a x b f called. (search rules, search rules)) c.iter.result _ _ c.one.ensures c.fold.ensures.ran
+    ∙ ap (product_of m.algebra m.means) c.iter.ensures.rest
