@@ -14,7 +14,7 @@ pub type Licence = UpTo<9>;
 #[derive(Clone, Copy)]
 pub struct Grade;
 
-// Beside Price's: they differ in top, join, laws and weight; a trait of these and an impl over it would be longer.
+// Like Price's but for top, join, laws and weight: one impl over a trait of both would leave TOP unconstrained.
 impl Tally for Grade {
     type Value = Option<Licence>;
 

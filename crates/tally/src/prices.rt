@@ -14,7 +14,7 @@ pub type Amount = UpTo<1_000_000_000>;
 #[derive(Clone, Copy)]
 pub struct Price;
 
-// Beside Grade's: they differ in top, join, laws and weight; a trait of these and an impl over it would be longer.
+// Like Grade's but for top, join, laws and weight: one impl over a trait of both would leave TOP unconstrained.
 impl Tally for Price {
     type Value = Option<Amount>;
 
