@@ -6,7 +6,8 @@ use crate::ends::Ends;
 use std::fmt::{self, Display};
 use tally::{Answer, UpTo};
 
-// A value as the tables print it. Options and pairs have no text of their own.
+// A value as the tables print it: options and pairs can have no Display of this repository.
+// Five impls, since one for every V that is Display would overlap those for options and pairs.
 #[derive(Clone, Copy)]
 pub(crate) struct Shown<V>(pub(crate) V);
 
