@@ -33,6 +33,7 @@ pub trait Tally {
     fn times(&self, a: Self::Value, b: Self::Value) -> Self::Value
         ensures { means result ≡ algebra.times (means a) (means b) };
 
+    // Three numbers and no struct, as weighs takes them: an impl names those that it weighs by.
     fn weight(&self, task: usize, price: u32, grade: u32) -> Self::Value
         ensures { means result ≡ weighs self.now task price grade };
 }

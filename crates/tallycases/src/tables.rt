@@ -24,6 +24,7 @@ impl<T: Tally + Drop> Tables<'_, T>
 where
     Shown<T::Value>: Display,
 {
+    // Prints all of them.
     pub(crate) fn print(&self, rt: &HostRuntime) -> io::Result<()> {
         self.print_operations(rt)?;
         self.print_weights(rt)?;
