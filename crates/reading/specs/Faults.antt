@@ -1,11 +1,13 @@
--- the number, the layer and the field that each refusal of a line is reported with
-use Rattle.std.specs.Prelude.{ℕ}
+-- the number, the layer and the field that each refusal of a line is reported with, and its text
+use Rattle.std.specs.Prelude.{ℕ, List, [], ◌∷◌, codes, decimal}
+use Rattle.fields.specs.Text.{Bytes, joined, tab}
 use Rattle.fields.specs.declared.faults.FieldCause.{FieldCause}
 use Rattle.fields.specs.declared.faults.FieldCause.TheVariants.{Form, Range}
 use Rattle.fields.specs.declared.faults.LineFault.{LineFault}
 use Rattle.fields.specs.declared.faults.LineFault.TheVariants.{Letter, Count, Field}
 use Rattle.reading.specs.declared.faults.DomainFault.{DomainFault}
 use Rattle.reading.specs.declared.faults.DomainFault.TheVariants.{Line, Declared, Undeclared, Full, Clash, Mark, Ladder}
+use Rattle.reading.specs.declared.faults.Fault.{Fault}
 
 pub record Report : Type 0 where
   pub number : ℕ
@@ -35,3 +37,13 @@ reported Full = report 7 3 1
 reported Clash = report 8 3 5
 reported Mark = report 9 3 5
 reported Ladder = report 10 3 5
+
+-- the fields that a refusal is reported by: the letter R, its number, layer, line and field
+abbrev pub fault_fields : Fault → List Bytes
+fault_fields f =
+    codes "R" ∷ decimal (reported f.cause).number ∷ decimal (reported f.cause).layer
+    ∷ decimal f.line ∷ decimal (reported f.cause).field ∷ []
+
+-- the text of a refusal, without the end of its line
+abbrev pub fault_text : Fault → Bytes
+fault_text f = joined tab (fault_fields f)

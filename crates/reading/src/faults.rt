@@ -1,9 +1,10 @@
-ghost use Rattle.std.specs.Prelude.{◌≡◌};
+ghost use Rattle.std.specs.Prelude.{◌≡◌, Some};
 ghost use Rattle.fields.specs.declared.faults.LineFault.TheVariants.{Field};
 ghost use Rattle.reading.specs.declared.faults.DomainFault.TheVariants.{Line};
-ghost use Rattle.reading.specs.Faults.{reported};
+ghost use Rattle.reading.specs.Faults.{fault_text, reported};
 
 use fields::{FieldCause, FieldFault, LineFault};
+use std::fmt;
 
 // Why a line is refused: what its form, its letter and its number of fields leave, and then what the domain says.
 #[derive(Clone, Copy)]
@@ -47,6 +48,7 @@ pub struct Fault {
     pub line: usize,
 }
 
+// The number, the layer and the field are numbers, since the format of a refusal fixes the numbers that are printed.
 impl Fault {
     // The refusal's number.
     pub fn number(&self) -> u8
@@ -86,13 +88,26 @@ impl Fault {
         match self.cause {
             DomainFault::Line(LineFault::Letter) => 1,
             DomainFault::Line(LineFault::Count(n)) => n,
-            DomainFault::Line(LineFault::Field(f)) => f.field as usize,
-            DomainFault::Declared(k) => k as usize,
-            DomainFault::Undeclared(k) => k as usize,
+            DomainFault::Line(LineFault::Field(f)) => usize::from(f.field),
+            DomainFault::Declared(k) => usize::from(k),
+            DomainFault::Undeclared(k) => usize::from(k),
             DomainFault::Full => 1,
             DomainFault::Clash => 5,
             DomainFault::Mark => 5,
             DomainFault::Ladder => 5,
         }
+    }
+}
+
+// A refusal as it is reported: the letter R, its number, layer, line and field, parted by tabs.
+impl fmt::Display for Fault {
+    ghost output = { λ f. Some (fault_text f) };
+
+    fn fmt<W: fmt::Write>(&self, f: &mut fmt::Formatter<W>) -> fmt::Result {
+        let number = self.number();
+        let layer = self.layer();
+        let line = self.line;
+        let field = self.field();
+        write!(f, "R\t{number}\t{layer}\t{line}\t{field}")
     }
 }

@@ -1,7 +1,7 @@
 -- the line that a program prints of a refusal
 use Rattle.std.specs.Prelude.{ℕ, List, [], ◌∷◌, ◌++◌, codes, decimal}
 use Rattle.fields.specs.Text.{Bytes, tab}
-use Rattle.reading.specs.Faults.{reported}
+use Rattle.reading.specs.Faults.{fault_fields}
 use Rattle.reading.specs.declared.faults.Fault.{Fault}
 
 -- fields with tabs between them, and a line feed
@@ -12,9 +12,7 @@ row (f ∷ g ∷ fs) = f ++ tab ∷ row (g ∷ fs)
 
 -- a refusal: its number, layer, line and field
 abbrev pub refusal : Fault → Bytes
-refusal f =
-    row (codes "R" ∷ decimal (reported f.cause).number ∷ decimal (reported f.cause).layer
-    ∷ decimal f.line ∷ decimal (reported f.cause).field ∷ [])
+refusal f = row (fault_fields f)
 
 -- a text without a closing line, after so many lines
 abbrev pub unclosed : ℕ → Bytes

@@ -10,11 +10,7 @@ use std::alloc::{AllocError, Global};
 pub fn refusal_line(heap: Global, fault: &Fault) -> Result<String, AllocError>
     ensures { IfOk result (λ s. string_bytes s ≡ refusal fault.now) }
 {
-    let number = fault.number();
-    let layer = fault.layer();
-    let line = fault.line;
-    let field = fault.field();
-    format!(in heap; "R\t{number}\t{layer}\t{line}\t{field}\n")
+    format!(in heap; "{fault}\n")
 }
 
 // The line that reports a text without a closing line.
