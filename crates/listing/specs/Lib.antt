@@ -1,3 +1,2 @@
 pub mod Listing
-pub mod Names
 pub mod Texts

@@ -1,6 +1,7 @@
 -- the text that lists a domain: one row for each entry,
 -- in the notation of a domain file, with its number after the letter
-use Rattle.std.specs.Prelude.{ℕ, suc, ◌/◌, ◌%◌, Bool, true, false, cond, List, [], ◌∷◌, ◌++◌, codes, decimal, ◌==◌, slice_index_or}
+use Rattle.std.specs.Prelude.{ℕ, suc, ◌/◌, ◌%◌, Bool, true, false, cond, List, [], ◌∷◌, ◌++◌, codes, decimal, ◌==◌, map, slice_index_or}
+use Rattle.std.specs.List.{flat_map}
 use Rattle.fields.specs.Text.{Bytes, joined, comma}
 use Rattle.theory.specs.Model.{Method}
 use Rattle.theory.specs.declared.Subtask.{Subtask}
@@ -51,12 +52,8 @@ module _ (t : Tables) where
   subtask_name (Primitive a) = slice_index_or (action_names t) a []
   subtask_name (Compound j) = slice_index_or (task_names t) j []
 
-  abbrev pub subtask_names : List Subtask → List Bytes
-  subtask_names [] = []
-  subtask_names (s ∷ ss) = subtask_name s ∷ subtask_names ss
-
   abbrev pub subtask_list : List Subtask → Bytes
-  subtask_list ss = name_list (subtask_names ss)
+  subtask_list ss = name_list (map subtask_name ss)
 
   abbrev pub method_row : ℕ → Method → Bytes
   method_row i m =
@@ -69,13 +66,9 @@ module _ (t : Tables) where
   constraint_row i (After j f) = row (codes "P" ∷ decimal i ∷ decimal j ∷ fact_name f ∷ [])
   constraint_row i (Between j f k) = row (codes "K" ∷ decimal i ∷ decimal j ∷ fact_name f ∷ decimal k ∷ [])
 
-  abbrev pub constraint_rows : ℕ → List Constraint → Bytes
-  constraint_rows i [] = []
-  constraint_rows i (c ∷ cs) = constraint_row i c ++ constraint_rows i cs
-
   -- a method's row and those of its constraints
   abbrev pub method_rows : ℕ → Method → Bytes
-  method_rows i m = method_row i m ++ constraint_rows i m.constraints
+  method_rows i m = method_row i m ++ flat_map (constraint_row i) m.constraints
 
   -- the four parts of the listing
   abbrev pub fact_part : Bytes

@@ -1,91 +1,73 @@
-ghost use Rattle.std.specs.Prelude.{◌≡◌, [], ◌++◌, string_bytes};
-ghost use Rattle.domain.specs.Held.{domain_tables};
-ghost use Rattle.listing.specs.Listing.{fact_name, subtask_name, fact_names, subtask_list};
-ghost use Rattle.listing.specs.Names.{separated, continued};
-ghost use Rattle.listing.specs.Texts.{Makes, Pushes};
+ghost use Rattle.std.specs.Prelude.{◌≡◌, map};
+ghost use Rattle.listing.specs.Listing.{fact_name, subtask_name, name_list, fact_names, subtask_list};
+ghost use Rattle.listing.specs.Texts.{Makes, listed};
 
-use domain::Domain;
-use std::alloc::{AllocError, Global};
+use crate::rows::Rows;
+use std::alloc::AllocError;
 use theory::Subtask;
 
-// The name of a fact.
-pub(crate) fn fact_name(domain: &Domain, fact: usize) -> &str
-    ensures { result.now ≡ fact_name (domain_tables domain.now) fact }
-{
-    match domain.facts().get(fact) {
-        Some(name) => name.as_str(),
-        None => "",
+impl<'a> Rows<'a> {
+    // The name of a fact.
+    pub(crate) fn fact_name(self, fact: usize) -> &'a str
+        ensures { result.now ≡ fact_name (listed self.entry) fact }
+    {
+        self.domain
+            .facts()
+            .get(fact)
+            .map_or("", |name| name.as_str())
     }
-}
 
-// The name of an action or a task.
-pub(crate) fn subtask_name(domain: &Domain, subtask: Subtask) -> &str
-    ensures { result.now ≡ subtask_name (domain_tables domain.now) subtask }
-{
-    match subtask {
-        Subtask::Primitive(a) => match domain.actions().get(a) {
-            Some(action) => action.name.as_str(),
-            None => "",
-        },
-        Subtask::Compound(t) => match domain.tasks().get(t) {
-            Some(task) => task.name.as_str(),
-            None => "",
-        },
-    }
-}
-
-// The names of the facts in a set, in ascending order of their numbers; a hyphen for none.
-pub(crate) fn fact_list(heap: Global, domain: &Domain, set: u64) -> Result<String, AllocError>
-    ensures { Makes result (fact_names (domain_tables domain.now) set) }
-{
-    let mut list = String::new(heap);
-    let mut none = true;
-    let mut rest = set;
-    for name in domain.facts() {
-        if rest % 2 == 1 {
-            push_name(&mut list, none, name.as_str())?;
-            none = false;
+    // The name of an action or a task.
+    pub(crate) fn subtask_name(self, subtask: Subtask) -> &'a str
+        ensures { result.now ≡ subtask_name (listed self.entry) subtask }
+    {
+        match subtask {
+            Subtask::Primitive(a) => self
+                .domain
+                .actions()
+                .get(a)
+                .map_or("", |action| action.name.as_str()),
+            Subtask::Compound(t) => self
+                .domain
+                .tasks()
+                .get(t)
+                .map_or("", |task| task.name.as_str()),
         }
-        rest /= 2;
     }
-    or_hyphen(list, none)
-}
 
-// The names of subtasks; a hyphen for none.
-pub(crate) fn subtask_list(
-    heap: Global,
-    domain: &Domain,
-    subtasks: &[Subtask],
-) -> Result<String, AllocError>
-    ensures { Makes result (subtask_list (domain_tables domain.now) subtasks.now) }
-{
-    let mut list = String::new(heap);
-    let mut none = true;
-    for subtask in subtasks {
-        push_name(&mut list, none, subtask_name(domain, *subtask))?;
-        none = false;
+    // The names of the facts in a set, in ascending order of their numbers.
+    pub(crate) fn fact_list(self, set: u64) -> Result<String, AllocError>
+        ensures { Makes result (fact_names (listed self.entry) set) }
+    {
+        let mut names = Vec::new(self.heap);
+        let mut rest = set;
+        for name in self.domain.facts() {
+            if rest % 2 == 1 {
+                names.push(name.as_str())?;
+            }
+            rest /= 2;
+        }
+        self.name_list(names.as_slice())
     }
-    or_hyphen(list, none)
-}
 
-// One name more, after a comma unless there is none before it.
-fn push_name(list: &mut String, none: bool, name: &str) -> Result<(), AllocError>
-    ensures { Pushes result list.old list.new (separated none name.now) }
-{
-    if none {
-        return list.push_str(name);
+    // The names of subtasks, in their order.
+    pub(crate) fn subtask_list(self, subtasks: &[Subtask]) -> Result<String, AllocError>
+        ensures { Makes result (subtask_list (listed self.entry) subtasks.now) }
+    {
+        let names: Vec<&str> = subtasks
+            .iter()
+            .map(|subtask| self.subtask_name(*subtask))
+            .collect(self.heap)?;
+        self.name_list(names.as_slice())
     }
-    list.push(',')?;
-    list.push_str(name)
-}
 
-// A list that has all its names, or a hyphen where it has none.
-fn or_hyphen(list: String, none: bool) -> Result<String, AllocError>
-    ensures { Makes result (string_bytes list ++ continued none []) }
-{
-    let mut list = list;
-    if none {
-        list.push('-')?;
+    // Names with commas between them, or a hyphen where there are none.
+    fn name_list(self, names: &[&str]) -> Result<String, AllocError>
+        ensures { Makes result (name_list (map (λ name. name.now) names.now)) }
+    {
+        if names.is_empty() {
+            return "-".to_string(self.heap);
+        }
+        names.join(self.heap, ",")
     }
-    Ok(list)
 }

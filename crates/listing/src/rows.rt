@@ -1,46 +1,63 @@
-ghost use Rattle.std.specs.Prelude.{◌≡◌};
+ghost use Rattle.std.specs.Prelude.{◌≡◌, ℕ};
 ghost use Rattle.fields.specs.Held.{name_text};
-ghost use Rattle.tables.specs.Held.{task_entry};
-ghost use Rattle.domain.specs.Held.{domain_tables};
-ghost use Rattle.listing.specs.Listing.{fact_row, task_row, mark_text, constraint_row};
-ghost use Rattle.listing.specs.Texts.{Makes, action_text, method_text};
+ghost use Rattle.fields.specs.Text.{Bytes};
+ghost use Rattle.reading.specs.Tables.{Tables};
+ghost use Rattle.tables.specs.Held.{action_entry, task_entry, method_entry};
+ghost use Rattle.listing.specs.Listing.{fact_row, action_row, task_row, method_row, method_rows, mark_text, constraint_row};
+ghost use Rattle.listing.specs.Texts.{Makes, listed};
 
-use crate::names::{fact_list, fact_name, subtask_list, subtask_name};
 use domain::Domain;
 use fields::Name;
 use std::alloc::{AllocError, Global};
 use tables::{Action, Method, Task};
 use theory::{Constraint, Subtask};
 
-pub(crate) fn fact_row(heap: Global, f: usize, name: &Name) -> Result<String, AllocError>
-    ensures { Makes result (fact_row f (name_text name.now)) }
-{
-    let name = name.as_str();
-    format!(in heap; "F\t{f}\t{name}\n")
+// What rows are made with: the memory for their texts, and the domain whose names they show.
+#[derive(Clone, Copy)]
+pub(crate) struct Rows<'a> {
+    pub(crate) heap: Global,
+    pub(crate) domain: &'a Domain,
 }
 
-pub(crate) fn action_row(
-    heap: Global,
-    domain: &Domain,
-    a: usize,
-    action: &Action,
-) -> Result<String, AllocError>
-    ensures { Makes result (action_text domain.now a action.now) }
-{
-    let name = action.name.as_str();
-    let needs = fact_list(heap, domain, action.needs)?;
-    let adds = fact_list(heap, domain, action.adds)?;
-    let deletes = fact_list(heap, domain, action.deletes)?;
-    format!(in heap; "A\t{a}\t{name}\t{needs}\t{adds}\t{deletes}\n")
+// An entry of one of a domain's tables.
+pub(crate) trait Entry {
+    // The rows of the entry with this number.
+    ghost text: { Tables → ℕ → Self → Bytes };
+
+    fn rows(&self, rows: Rows<'_>, number: usize) -> Result<String, AllocError>
+        ensures { Makes result (text (listed rows.entry) number self.now) };
 }
 
-pub(crate) fn task_row(heap: Global, t: usize, task: &Task) -> Result<String, AllocError>
-    ensures { Makes result (task_row t (task_entry task.now)) }
-{
-    let name = task.name.as_str();
-    let level = task.level;
-    let mark = mark(task.vanishes);
-    format!(in heap; "T\t{t}\t{name}\t{level}\t{mark}\n")
+impl Entry for Name {
+    ghost text = { λ t i name. fact_row i (name_text name) };
+
+    fn rows(&self, rows: Rows<'_>, number: usize) -> Result<String, AllocError> {
+        let name = self.as_str();
+        format!(in rows.heap; "F\t{number}\t{name}\n")
+    }
+}
+
+impl Entry for Action {
+    ghost text = { λ t i action. action_row t i (action_entry action) };
+
+    fn rows(&self, rows: Rows<'_>, number: usize) -> Result<String, AllocError> {
+        let name = self.name.as_str();
+        let needs = rows.fact_list(self.needs)?;
+        let adds = rows.fact_list(self.adds)?;
+        let deletes = rows.fact_list(self.deletes)?;
+        format!(in rows.heap; "A\t{number}\t{name}\t{needs}\t{adds}\t{deletes}\n")
+    }
+}
+
+impl Entry for Task {
+    ghost text = { λ t i task. task_row i (task_entry task) };
+
+    fn rows(&self, rows: Rows<'_>, number: usize) -> Result<String, AllocError> {
+        let name = self.name.as_str();
+        let level = self.level;
+        let mark = mark(self.vanishes);
+        format!(in rows.heap; "T\t{number}\t{name}\t{level}\t{mark}\n")
+    }
 }
 
 fn mark(vanishes: bool) -> &'static str
@@ -49,43 +66,50 @@ fn mark(vanishes: bool) -> &'static str
     if vanishes { "v" } else { "n" }
 }
 
-// A method's row, without its constraints.
-pub(crate) fn method_row(
-    heap: Global,
-    domain: &Domain,
-    m: usize,
-    method: &Method,
-) -> Result<String, AllocError>
-    ensures { Makes result (method_text domain.now m method.now) }
-{
-    let task = subtask_name(domain, Subtask::Compound(method.task));
-    let price = method.price;
-    let grade = method.grade;
-    let subtasks = subtask_list(heap, domain, method.subtasks.as_slice())?;
-    format!(in heap; "M\t{m}\t{task}\t{price}\t{grade}\t{subtasks}\n")
+impl Entry for Method {
+    ghost text = { λ t i method. method_rows t i (method_entry method) };
+
+    // The method's row, and those of its constraints.
+    fn rows(&self, rows: Rows<'_>, number: usize) -> Result<String, AllocError> {
+        let mut text = rows.method_row(number, self)?;
+        for constraint in self.constraints.as_slice() {
+            let row = rows.constraint_row(number, *constraint)?;
+            text.push_str(row.as_str())?;
+        }
+        Ok(text)
+    }
 }
 
-// The row of a constraint of method m.
-pub(crate) fn constraint_row(
-    heap: Global,
-    domain: &Domain,
-    m: usize,
-    constraint: Constraint,
-) -> Result<String, AllocError>
-    ensures { Makes result (constraint_row (domain_tables domain.now) m constraint) }
-{
-    match constraint {
-        Constraint::Before { position, fact } => {
-            let fact = fact_name(domain, fact);
-            format!(in heap; "B\t{m}\t{position}\t{fact}\n")
-        }
-        Constraint::After { position, fact } => {
-            let fact = fact_name(domain, fact);
-            format!(in heap; "P\t{m}\t{position}\t{fact}\n")
-        }
-        Constraint::Between { from, fact, to } => {
-            let fact = fact_name(domain, fact);
-            format!(in heap; "K\t{m}\t{from}\t{fact}\t{to}\n")
+impl Rows<'_> {
+    // A method's row, without its constraints.
+    fn method_row(self, number: usize, method: &Method) -> Result<String, AllocError>
+        ensures { Makes result
+            (method_row (listed self.entry) number (method_entry method.now)) }
+    {
+        let task = self.subtask_name(Subtask::Compound(method.task));
+        let price = method.price;
+        let grade = method.grade;
+        let subtasks = self.subtask_list(method.subtasks.as_slice())?;
+        format!(in self.heap; "M\t{number}\t{task}\t{price}\t{grade}\t{subtasks}\n")
+    }
+
+    // The row of a constraint, with its method's number.
+    fn constraint_row(self, method: usize, constraint: Constraint) -> Result<String, AllocError>
+        ensures { Makes result (constraint_row (listed self.entry) method constraint) }
+    {
+        match constraint {
+            Constraint::Before { position, fact } => {
+                let fact = self.fact_name(fact);
+                format!(in self.heap; "B\t{method}\t{position}\t{fact}\n")
+            }
+            Constraint::After { position, fact } => {
+                let fact = self.fact_name(fact);
+                format!(in self.heap; "P\t{method}\t{position}\t{fact}\n")
+            }
+            Constraint::Between { from, fact, to } => {
+                let fact = self.fact_name(fact);
+                format!(in self.heap; "K\t{method}\t{from}\t{fact}\t{to}\n")
+            }
         }
     }
 }
