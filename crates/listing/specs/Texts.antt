@@ -3,7 +3,7 @@ use Rattle.std.specs.Prelude.{◌≡◌, ◌++◌, IfOk, string_bytes, Result, S
 use Rattle.fields.specs.Text.{Bytes}
 use Rattle.reading.specs.Tables.{Tables}
 use Rattle.domain.specs.Held.{domain_tables}
-use Rattle.listing.specs.declared.rows.Rows.{Rows}
+use Rattle.listing.specs.declared.rows.Lister.{Lister}
 
 -- the string made is this text
 abbrev pub Makes : {Z E : Type 0} → Result (String Z) E → Bytes → Type 0
@@ -14,5 +14,5 @@ abbrev pub Pushes : {Z E : Type 0} → Result (Unit {0}) E → String Z → Stri
 Pushes r old new text = OnOk r (string_bytes new ≡ string_bytes old ++ text)
 
 -- the tables whose rows are made
-abbrev pub listed : Rows → Tables
-listed rows = domain_tables rows.domain.now
+abbrev pub listed : Lister → Tables
+listed lister = domain_tables lister.domain.now

@@ -1,12 +1,13 @@
-ghost use Rattle.std.specs.Prelude.{◌≡◌, map};
+ghost use Rattle.std.specs.Prelude.{◌≡◌, ◌==◌, map};
+ghost use Rattle.std.specs.Int.{bit_at};
 ghost use Rattle.listing.specs.Listing.{fact_name, subtask_name, name_list, fact_names, subtask_list};
 ghost use Rattle.listing.specs.Texts.{Makes, listed};
 
-use crate::rows::Rows;
+use crate::rows::Lister;
 use std::alloc::AllocError;
 use theory::Subtask;
 
-impl<'a> Rows<'a> {
+impl<'a> Lister<'a> {
     // The name of a fact.
     pub(crate) fn fact_name(self, fact: usize) -> &'a str
         ensures { result.now ≡ fact_name (listed self.entry) fact }
@@ -39,14 +40,14 @@ impl<'a> Rows<'a> {
     pub(crate) fn fact_list(self, set: u64) -> Result<String, AllocError>
         ensures { Makes result (fact_names (listed self.entry) set) }
     {
-        let mut names = Vec::new(self.heap);
-        let mut rest = set;
-        for name in self.domain.facts() {
-            if rest % 2 == 1 {
-                names.push(name.as_str())?;
-            }
-            rest /= 2;
-        }
+        let names: Vec<&str> = self
+            .domain
+            .facts()
+            .iter()
+            .enumerate()
+            .filter(|(fact, _)| holds(set, *fact))
+            .map(|(_, name)| name.as_str())
+            .collect(self.heap)?;
         self.name_list(names.as_slice())
     }
 
@@ -70,4 +71,11 @@ impl<'a> Rows<'a> {
         }
         names.join(self.heap, ",")
     }
+}
+
+// Whether a fact is in a set, whose bit f tells of fact f.
+fn holds(set: u64, fact: usize) -> bool
+    ensures { result ≡ (bit_at set fact == 1) }
+{
+    fact < 64 && set >> fact & 1 == 1
 }

@@ -12,51 +12,51 @@ use std::alloc::{AllocError, Global};
 use tables::{Action, Method, Task};
 use theory::{Constraint, Subtask};
 
-// What rows are made with: the memory for their texts, and the domain whose names they show.
+// What lists a domain: the memory for the rows, and the domain, whose names they show.
 #[derive(Clone, Copy)]
-pub(crate) struct Rows<'a> {
+pub(crate) struct Lister<'a> {
     pub(crate) heap: Global,
     pub(crate) domain: &'a Domain,
 }
 
-// An entry of one of a domain's tables.
+// An entry of one of a domain's tables. Its rows are made as Strings and not by a Display: a list of names is joined in memory.
 pub(crate) trait Entry {
     // The rows of the entry with this number.
     ghost text: { Tables → ℕ → Self → Bytes };
 
-    fn rows(&self, rows: Rows<'_>, number: usize) -> Result<String, AllocError>
-        ensures { Makes result (text (listed rows.entry) number self.now) };
+    fn rows(&self, lister: Lister<'_>, number: usize) -> Result<String, AllocError>
+        ensures { Makes result (text (listed lister.entry) number self.now) };
 }
 
 impl Entry for Name {
     ghost text = { λ t i name. fact_row i (name_text name) };
 
-    fn rows(&self, rows: Rows<'_>, number: usize) -> Result<String, AllocError> {
+    fn rows(&self, lister: Lister<'_>, number: usize) -> Result<String, AllocError> {
         let name = self.as_str();
-        format!(in rows.heap; "F\t{number}\t{name}\n")
+        format!(in lister.heap; "F\t{number}\t{name}\n")
     }
 }
 
 impl Entry for Action {
     ghost text = { λ t i action. action_row t i (action_entry action) };
 
-    fn rows(&self, rows: Rows<'_>, number: usize) -> Result<String, AllocError> {
+    fn rows(&self, lister: Lister<'_>, number: usize) -> Result<String, AllocError> {
         let name = self.name.as_str();
-        let needs = rows.fact_list(self.needs)?;
-        let adds = rows.fact_list(self.adds)?;
-        let deletes = rows.fact_list(self.deletes)?;
-        format!(in rows.heap; "A\t{number}\t{name}\t{needs}\t{adds}\t{deletes}\n")
+        let needs = lister.fact_list(self.needs)?;
+        let adds = lister.fact_list(self.adds)?;
+        let deletes = lister.fact_list(self.deletes)?;
+        format!(in lister.heap; "A\t{number}\t{name}\t{needs}\t{adds}\t{deletes}\n")
     }
 }
 
 impl Entry for Task {
     ghost text = { λ t i task. task_row i (task_entry task) };
 
-    fn rows(&self, rows: Rows<'_>, number: usize) -> Result<String, AllocError> {
+    fn rows(&self, lister: Lister<'_>, number: usize) -> Result<String, AllocError> {
         let name = self.name.as_str();
         let level = self.level;
         let mark = mark(self.vanishes);
-        format!(in rows.heap; "T\t{number}\t{name}\t{level}\t{mark}\n")
+        format!(in lister.heap; "T\t{number}\t{name}\t{level}\t{mark}\n")
     }
 }
 
@@ -70,17 +70,17 @@ impl Entry for Method {
     ghost text = { λ t i method. method_rows t i (method_entry method) };
 
     // The method's row, and those of its constraints.
-    fn rows(&self, rows: Rows<'_>, number: usize) -> Result<String, AllocError> {
-        let mut text = rows.method_row(number, self)?;
+    fn rows(&self, lister: Lister<'_>, number: usize) -> Result<String, AllocError> {
+        let mut text = lister.method_row(number, self)?;
         for constraint in self.constraints.as_slice() {
-            let row = rows.constraint_row(number, *constraint)?;
+            let row = lister.constraint_row(number, *constraint)?;
             text.push_str(row.as_str())?;
         }
         Ok(text)
     }
 }
 
-impl Rows<'_> {
+impl Lister<'_> {
     // A method's row, without its constraints.
     fn method_row(self, number: usize, method: &Method) -> Result<String, AllocError>
         ensures { Makes result

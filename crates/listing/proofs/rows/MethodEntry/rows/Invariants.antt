@@ -8,5 +8,5 @@ use Rattle.listing.proofs.rows.MethodEntry.rows.Given as goal
 abbrev pub invariant-loop-constraint : goal.invariant-loop-constraint
 invariant-loop-constraint l =
     string_bytes l.text
-    ≡ method_row (listed l.rows) l.number (method_entry l.self)
-    ++ flat_map (constraint_row (listed l.rows) l.number) (take l.constraint-index l.constraint-items)
+    ≡ method_row (listed l.lister) l.number (method_entry l.self)
+    ++ flat_map (constraint_row (listed l.lister) l.number) (take l.constraint-index l.constraint-items)

@@ -1,6 +1,6 @@
-use Rattle.std.proofs.Common.{ℕ, rules}
+use Rattle.std.proofs.Common.{rules}
 use Rattle.listing.proofs.Texts.{join_by-name_list}
-use Rattle.listing.proofs.rows.Rows.name_list.Goals as goal
+use Rattle.listing.proofs.rows.Lister.name_list.Goals as goal
 
 pub returns : goal.returns
 returns c = search (rules, join_by-name_list)

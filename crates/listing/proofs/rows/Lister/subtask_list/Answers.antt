@@ -6,7 +6,7 @@ use Rattle.std.proofs.lemmas.Result.{IfOk-at_ok}
 use Rattle.std.specs.Vec.{vec_items}
 use Rattle.listing.specs.Listing.{subtask_name}
 use Rattle.listing.specs.Texts.{listed}
-use Rattle.listing.proofs.rows.Rows.subtask_list.Goals as goal
+use Rattle.listing.proofs.rows.Lister.subtask_list.Goals as goal
 
 pub returns : goal.returns
 returns c =

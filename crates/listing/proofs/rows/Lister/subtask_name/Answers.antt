@@ -3,7 +3,7 @@ use Rattle.std.proofs.lemmas.Grind.{common_steps}
 use Rattle.reading.specs.Tables.{ActionEntry, TaskEntry}
 use Rattle.tables.specs.Held.{action_entry, task_entry}
 use Rattle.listing.proofs.Texts.{get_or-names}
-use Rattle.listing.proofs.rows.Rows.subtask_name.Goals as goal
+use Rattle.listing.proofs.rows.Lister.subtask_name.Goals as goal
 
 pub returns-in-Primitive : goal.returns-in-Primitive
 returns-in-Primitive c =

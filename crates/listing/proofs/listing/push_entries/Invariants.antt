@@ -1,9 +1,0 @@
-use Rattle.std.proofs.Common.{◌≡◌, ◌++◌, drop, string_bytes}
-use Rattle.listing.specs.Listing.{numbered}
-use Rattle.listing.specs.Texts.{listed}
-use Rattle.listing.proofs.listing.push_entries.Given as goal
-
-abbrev pub invariant-loop-number : goal.invariant-loop-number
-invariant-loop-number g l =
-    string_bytes l.out ++ numbered (g.T.Entry.text (listed l.rows)) l.number (drop l.number l.entries)
-    ≡ string_bytes l.initial.out ++ numbered (g.T.Entry.text (listed l.rows)) 0 l.entries
