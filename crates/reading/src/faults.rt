@@ -86,15 +86,11 @@ impl Fault {
         ensures { result ≡ (reported self.now.cause).field }
     {
         match self.cause {
-            DomainFault::Line(LineFault::Letter) => 1,
+            DomainFault::Line(LineFault::Letter) | DomainFault::Full => 1,
             DomainFault::Line(LineFault::Count(n)) => n,
             DomainFault::Line(LineFault::Field(f)) => usize::from(f.field),
-            DomainFault::Declared(k) => usize::from(k),
-            DomainFault::Undeclared(k) => usize::from(k),
-            DomainFault::Full => 1,
-            DomainFault::Clash => 5,
-            DomainFault::Mark => 5,
-            DomainFault::Ladder => 5,
+            DomainFault::Declared(k) | DomainFault::Undeclared(k) => usize::from(k),
+            DomainFault::Clash | DomainFault::Mark | DomainFault::Ladder => 5,
         }
     }
 }

@@ -1,5 +1,5 @@
 -- a row of fields
-use Rattle.std.proofs.Common.{◌≡◌, List, [], ◌∷◌, ◌++◌, sym, refl, ap, ◌∙◌, append_assoc}
+use Rattle.std.proofs.Common.{◌≡◌, List, [], ◌∷◌, ◌++◌, refl, ap, ◌∙◌, append_assoc}
 use Rattle.fields.specs.Text.{Bytes, joined, tab}
 use Rattle.report.specs.Report.{row}
 
