@@ -19,7 +19,8 @@ pub(crate) struct Lister<'a> {
     pub(crate) domain: &'a Domain,
 }
 
-// An entry of one of a domain's tables. Its rows are made as Strings and not by a Display: a list of names is joined in memory.
+// An entry of one of a domain's tables.
+// Its rows are Strings and no displays: a list of names is joined in memory, so a display would be no plainer.
 pub(crate) trait Entry {
     // The rows of the entry with this number.
     ghost text: { Tables → ℕ → Self → Bytes };

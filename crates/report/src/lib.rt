@@ -13,7 +13,7 @@ pub fn refusal_line(heap: Global, fault: &Fault) -> Result<String, AllocError>
     format!(in heap; "{fault}\n")
 }
 
-// The line that reports a text without a closing line.
+// The line that reports a text without a closing line, with the number 11 and the layer 4, which the format fixes.
 pub fn unclosed_line(heap: Global, lines: usize) -> Result<String, AllocError>
     ensures { IfOk result (λ s. string_bytes s ≡ unclosed lines) }
 {
