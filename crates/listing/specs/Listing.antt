@@ -52,8 +52,11 @@ module _ (t : Tables) where
   subtask_name (Primitive a) = slice_index_or (action_names t) a []
   subtask_name (Compound j) = slice_index_or (task_names t) j []
 
+  abbrev pub subtask_names : List Subtask → List Bytes
+  subtask_names ss = map subtask_name ss
+
   abbrev pub subtask_list : List Subtask → Bytes
-  subtask_list ss = name_list (map subtask_name ss)
+  subtask_list ss = name_list (subtask_names ss)
 
   abbrev pub method_row : ℕ → Method → Bytes
   method_row i m =
@@ -66,9 +69,12 @@ module _ (t : Tables) where
   constraint_row i (After j f) = row (codes "P" ∷ decimal i ∷ decimal j ∷ fact_name f ∷ [])
   constraint_row i (Between j f k) = row (codes "K" ∷ decimal i ∷ decimal j ∷ fact_name f ∷ decimal k ∷ [])
 
+  abbrev pub constraint_rows : ℕ → List Constraint → Bytes
+  constraint_rows i cs = flat_map (constraint_row i) cs
+
   -- a method's row and those of its constraints
   abbrev pub method_rows : ℕ → Method → Bytes
-  method_rows i m = method_row i m ++ flat_map (constraint_row i) m.constraints
+  method_rows i m = method_row i m ++ constraint_rows i m.constraints
 
   -- the four parts of the listing
   abbrev pub fact_part : Bytes
