@@ -11,17 +11,13 @@ use Rattle.reading.specs.declared.faults.DomainFault.TheVariants.{Line}
 use Rattle.reading.specs.declared.kinds.Kind.{Kind}
 use Rattle.reading.specs.declared.kinds.Kind.TheVariants as kind
 use Rattle.reading.specs.declared.kinds.Section.{Section}
-use Rattle.reading.proofs.Checks.{step, stop, pass, fail}
+use Rattle.reading.proofs.Checks.{step, pass, fail}
 use Rattle.domain.specs.Steps.{kind_in, section_after}
 use Rattle.lines.proofs.Closing.{so}
 
 kind_is : (o : Option Kind) (c : Kind) → ◌≡◌ {A = Result Kind LineFault} (Ok c) (ok_or o Letter) → o ≡ Some c
 kind_is (Some d) c e = let q : c ≡ d = cc in ap Some (sym q)
 kind_is None c e = let z : ◌≡◌ {A = ℕ} 0 1 = cc in absurd (omega arith)
-
-kind_no : (o : Option Kind) (g : LineFault) → ◌≡◌ {A = Result Kind LineFault} (Err g) (ok_or o Letter) → found o (Line Letter) ≡ Err (Line g)
-kind_no (Some d) g e = let z : ◌≡◌ {A = ℕ} 0 1 = cc in absurd (omega arith)
-kind_no None g e = let q : g ≡ Letter = cc in ap (λ (h : LineFault). Err (Line h)) (sym q)
 
 after_no : (s : Section) (c : Kind) (g : LineFault) → Err g ≡ section_after s c → (allowed s c ≡ false) × (g ≡ Letter)
 after_no s c g e = go (allowed s c) e
@@ -54,10 +50,6 @@ at_most_five kind.Closing = omega arith
 module _ (l : Bytes) (five : List Bytes) (first : five ≡ take 5 (fields l)) (s : Section) (f : Bytes) (at_one : f ≡ at five 1) where
   found-is : found (kind_of (at (fields l) 1)) (Line Letter) ≡ found (kind_of f) (Line Letter)
   found-is = ap (λ (g : Bytes). found (kind_of g) (Line Letter)) (sym (first-at (fields l)) ∙ ap (λ (fs : List Bytes). at fs 1) (sym first) ∙ sym at_one)
-
-  -- the letter is none
-  pub head-none : (g : LineFault) → Err g ≡ kind_in f → head s l ≡ Err (Line g)
-  head-none g e = stop _ (found-is ∙ kind_no (kind_of f) g e)
 
   -- the letter may not stand here
   pub head_out : (c : Kind) (g : LineFault) → Ok c ≡ kind_in f → Err g ≡ section_after s c → head s l ≡ Err (Line g)

@@ -3,17 +3,9 @@ use Rattle.fields.specs.Held.{line_fields}
 use Rattle.reading.specs.Reading.{line}
 use Rattle.reading.specs.declared.faults.DomainFault.{DomainFault}
 use Rattle.domain.specs.Held.{domain_tables}
-use Rattle.domain.proofs.Heads.{after_is, all-fields, head-none, head_out, head_ok, head_no}
+use Rattle.domain.proofs.Heads.{after_is, all-fields, head_out, head_ok, head_no}
 use Rattle.domain.proofs.Takings.{taken_err, line-head, line-declared, line_refused}
 use Rattle.domain.proofs.reader.Reader.take.Goals as goal
-
-pub returns-in_err-kind : goal.returns-in_err-kind
-returns-in_err-kind c =
-    let r = c.args.self.now in
-    let l = c.args.bytes.now in
-    let h = head-none l _ c.cut-line.ensures.first r.section _ c.field.ensures _ c.in_err-kind.ensures in
-    taken_err _ r r (line r.section (domain_tables r.domain) l) _ c.from_residual.ensures
-    (λ e p. line-head r.section (domain_tables r.domain) l _ h ∙ ap (λ (f : DomainFault). Err f) (sym p)) refl refl (refl, refl)
 
 pub returns-in_err-next : goal.returns-in_err-next
 returns-in_err-next c =
