@@ -20,5 +20,4 @@ pub enum Constraint {
 // The tests of the mark rule and of the ladder rule say yes exactly where the rules are kept.
 pub fn rules_decided()
     ensures { RulesDecided }
-{
-}
+{}
