@@ -1,10 +1,11 @@
-ghost use Rattle.std.specs.Prelude.{◌≡◌, ◌==◌, map};
+ghost use Rattle.std.specs.Prelude.{◌≡◌, ◌==◌, [], map, slice_index_or};
 ghost use Rattle.std.specs.Int.{bit_at};
 ghost use Rattle.listing.specs.Listing.{fact_name, subtask_name, name_list, fact_names, subtask_list};
 ghost use Rattle.listing.specs.Texts.{Makes, listed};
 
 use crate::rows::Lister;
 use std::alloc::AllocError;
+use tables::Named;
 use theory::Subtask;
 
 impl<'a> Lister<'a> {
@@ -12,10 +13,7 @@ impl<'a> Lister<'a> {
     pub(crate) fn fact_name(self, fact: usize) -> &'a str
         ensures { result.now ≡ fact_name (listed self.entry) fact }
     {
-        self.domain
-            .facts()
-            .get(fact)
-            .map_or("", |name| name.as_str())
+        name_of(self.domain.facts(), fact)
     }
 
     // The name of an action or a task.
@@ -23,16 +21,8 @@ impl<'a> Lister<'a> {
         ensures { result.now ≡ subtask_name (listed self.entry) subtask }
     {
         match subtask {
-            Subtask::Primitive(a) => self
-                .domain
-                .actions()
-                .get(a)
-                .map_or("", |action| action.name.as_str()),
-            Subtask::Compound(t) => self
-                .domain
-                .tasks()
-                .get(t)
-                .map_or("", |task| task.name.as_str()),
+            Subtask::Primitive(a) => name_of(self.domain.actions(), a),
+            Subtask::Compound(t) => name_of(self.domain.tasks(), t),
         }
     }
 
@@ -71,6 +61,15 @@ impl<'a> Lister<'a> {
         }
         names.join(self.heap, ",")
     }
+}
+
+// The name of the entry with this number; empty where there is none.
+fn name_of<T: Named>(entries: &[T], number: usize) -> &str
+    ensures { result.now ≡ slice_index_or (map T.text entries.now) number [] }
+{
+    entries
+        .get(number)
+        .map_or("", |entry| entry.name().as_str())
 }
 
 // Whether a fact is in a set, whose bit f tells of fact f.
