@@ -35,6 +35,7 @@ impl Domain {
     }
 
     // The names of the facts, by number.
+    // Four questions with names of their own: a generic one would need a trait of four impls for these four lines.
     pub fn facts(&self) -> &[Name]
         ensures { map name_text result.now ≡ (domain_tables self.now).facts }
     {

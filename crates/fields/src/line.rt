@@ -10,6 +10,7 @@ use crate::name::text::is_name;
 use crate::pieces::Pieces;
 
 // A line cut at its tabs: its first fields, how many it has, and how many bytes.
+// An array with the count beside it and no Vec, since no line may need memory.
 #[derive(Clone, Copy)]
 pub struct Line<'a> {
     at: [&'a [u8]; 5],
@@ -49,6 +50,7 @@ impl<'a> Line<'a> {
     }
 
     // Field k, from 1; empty where there is none.
+    // The questions on a field take k: a type for one field would only turn `line.name(2)` into `line.field(2).name()`.
     pub fn field(&self, k: u8) -> &'a [u8]
         ensures { result.now ≡ at (line_fields self.now) k }
     {

@@ -4,6 +4,7 @@ ghost use Rattle.fields.specs.Form.{name_at};
 pub(crate) mod text;
 
 // A name: 1 to 16 bytes, small letters and digits, the first a letter. They stand at the front of the array.
+// An array with the length beside it and no String, since no line may need memory.
 #[derive(Clone, Copy)]
 pub struct Name {
     bytes: [u8; 16],

@@ -82,6 +82,7 @@ impl Tables {
     }
 
     // The subtasks that a field lists.
+    // A loop of its own beside that for a set of facts: one for both would take each step's own condition as an argument.
     fn subtask_list(&self, line: &Line, k: u8) -> Result<Few<Subtask>, DomainFault>
         ensures { answered few_items result ≡ subtask_list self.now line.now k }
     {
@@ -141,7 +142,7 @@ impl Tables {
         Ok(())
     }
 
-    // How many subtasks the last method has.
+    // How many subtasks the last method has, as the u32 that numbers of a line are; there are at most four.
     fn arity(&self) -> u32
         ensures value { result ≡ arity self.now }
         ensures few { result ≤ 4 }
@@ -163,6 +164,7 @@ impl Tables {
     {
         let position = line.number(2, 0, self.arity())?;
         let fact = self.old_fact(line, 3)?;
+        // usize has no From<u32>, and try_from would be asked for a fault that can't occur
         Ok(make(position as usize, fact))
     }
 

@@ -8,7 +8,7 @@ ghost use Rattle.lines.specs.Names.{NewName, OldName};
 use fields::{Line, Name};
 use reading::DomainFault;
 
-// A name that stands for nothing yet.
+// A name that stands for nothing yet, by the lookup that is handed in.
 pub(crate) fn new_name<T: Drop, F: FnOnce(&[u8]) -> Option<T>>(
     line: &Line,
     k: u8,
@@ -24,7 +24,7 @@ pub(crate) fn new_name<T: Drop, F: FnOnce(&[u8]) -> Option<T>>(
     Ok(name)
 }
 
-// What a declared name stands for.
+// What a declared name stands for, by the lookup that is handed in.
 pub(crate) fn old_name<T, F: FnOnce(&[u8]) -> Option<T>>(
     line: &Line,
     k: u8,

@@ -30,6 +30,7 @@ impl LawfulTables {
     pub fn declare(&mut self, kind: Kind, line: &Line) -> Result<(), DomainFault>
         ensures { Declares result self.old.tables self.new.tables kind line.now }
     {
+        // a match and no table of functions: the kinds are these eight for good
         match kind {
             Kind::Fact => self.fact_line(line),
             Kind::Action => self.action_line(line),
