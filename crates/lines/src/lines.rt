@@ -142,7 +142,7 @@ impl Tables {
         Ok(())
     }
 
-    // How many subtasks the last method has, as the u32 that numbers of a line are; there are at most four.
+    // How many subtasks the last method has. By `as`: there are at most four, and TryFrom would ask for a fault that can't be.
     fn arity(&self) -> u32
         ensures value { result ≡ arity self.now }
         ensures few { result ≤ 4 }
@@ -164,8 +164,7 @@ impl Tables {
     {
         let position = line.number(2, 0, self.arity())?;
         let fact = self.old_fact(line, 3)?;
-        // usize has no From<u32>, and try_from would be asked for a fault that can't occur
-        Ok(make(position as usize, fact))
+        Ok(make(counted(position), fact))
     }
 
     // The constraint between two positions.
@@ -177,9 +176,9 @@ impl Tables {
         let fact = self.old_fact(line, 3)?;
         let to = line.number(4, from + 1, k)?;
         Ok(Constraint::Between {
-            from: from as usize,
+            from: counted(from),
             fact,
-            to: to as usize,
+            to: counted(to),
         })
     }
 
@@ -197,6 +196,13 @@ impl Tables {
         method.constraints = more;
         Ok(())
     }
+}
+
+// A position as a count of subtasks. By `as`: usize has no From<u32>, and TryFrom would ask for a fault that can't be.
+fn counted(position: u32) -> usize
+    ensures { result ≡ position }
+{
+    position as usize
 }
 
 // The list with one subtask more, where there is room.
