@@ -109,13 +109,10 @@ impl Reader {
             cause,
             line: self.lines,
         };
-        match self.section {
-            Section::Closed => fault,
-            _ => {
-                self.refused = Some(fault);
-                fault
-            }
+        if !matches!(self.section, Section::Closed) {
+            self.refused = Some(fault);
         }
+        fault
     }
 }
 
@@ -134,13 +131,10 @@ fn field_count(kind: Kind) -> usize
     ensures { result ≡ plain.field_count kind }
 {
     match kind {
-        Kind::Fact => 2,
-        Kind::Action => 5,
-        Kind::Task => 4,
-        Kind::Method => 5,
-        Kind::Before => 3,
-        Kind::After => 3,
-        Kind::Between => 4,
         Kind::Closing => 1,
+        Kind::Fact => 2,
+        Kind::Before | Kind::After => 3,
+        Kind::Task | Kind::Between => 4,
+        Kind::Action | Kind::Method => 5,
     }
 }
