@@ -17,13 +17,13 @@ use Rattle.lines.proofs.Closing.{so}
 
 kind_is : (o : Option Kind) (c : Kind) → ◌≡◌ {A = Result Kind LineFault} (Ok c) (ok_or o Letter) → o ≡ Some c
 kind_is (Some d) c e = let q : c ≡ d = cc in ap Some (sym q)
-kind_is None c e = let z : ◌≡◌ {A = ℕ} 0 1 = cc in absurd (omega arith)
+kind_is None c e = absurd cc
 
 after_no : (s : Section) (c : Kind) (g : LineFault) → Err g ≡ section_after s c → (allowed s c ≡ false) × (g ≡ Letter)
 after_no s c g e = go (allowed s c) e
   where
     go : (b : Bool) → ◌≡◌ {A = Result Section LineFault} (Err g) (cond b (Ok (group c)) (Err Letter)) → (b ≡ false) × (g ≡ Letter)
-    go true e = let z : ◌≡◌ {A = ℕ} 0 1 = cc in absurd (omega arith)
+    go true e = absurd cc
     go false e = (refl, cc)
 
 pub after_is : (s : Section) (c : Kind) (r : Section) → Ok r ≡ section_after s c → (allowed s c ≡ true) × (r ≡ group c)
@@ -31,7 +31,7 @@ after_is s c r e = go (allowed s c) e
   where
     go : (b : Bool) → ◌≡◌ {A = Result Section LineFault} (Ok r) (cond b (Ok (group c)) (Err Letter)) → (b ≡ true) × (r ≡ group c)
     go true e = (refl, cc)
-    go false e = let z : ◌≡◌ {A = ℕ} 0 1 = cc in absurd (omega arith)
+    go false e = absurd cc
 
 first-at : (fs : List Bytes) → at (take 5 fs) 1 ≡ at fs 1
 first-at [] = refl
@@ -75,13 +75,13 @@ module _ (l : Bytes) (five : List Bytes) (first : five ≡ take 5 (fields l)) (n
     where
       go : (b : Bool) → Ok tt ≡ counting b → b ≡ true
       go true e = refl
-      go false e = let z : ◌≡◌ {A = ℕ} 0 1 = cc in absurd (omega arith)
+      go false e = absurd cc
 
   counted_no : (f : LineFault) → Err f ≡ counting (counts n len) → (counts n len ≡ false) × (f ≡ Count n)
   counted_no f e = go (counts n len) e
     where
       go : (b : Bool) → Err f ≡ counting b → (b ≡ false) × (f ≡ Count n)
-      go true e = let z : ◌≡◌ {A = ℕ} 0 1 = cc in absurd (omega arith)
+      go true e = absurd cc
       go false e = (refl, cc)
 
   -- a line of the right number of fields has no others

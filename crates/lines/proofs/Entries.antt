@@ -102,14 +102,14 @@ module _ (t : Tables) (l : Line) where
         where
           go : (p : Check (ℕ × ℕ)) → placed p Makes (Err e) → Err e ≡ p
           go (Err g) h = let x = h in let q : e ≡ g = cc in ap (λ (f : DomainFault). Err f) q
-          go (Ok (j, f)) h = let x = h.2 in let z : ◌≡◌ {A = ℕ} 0 1 = cc in absurd (omega arith)
+          go (Ok (j, f)) h = let x = h.2 in absurd cc
 
       pub placed_goes : ((j f : ℕ) (c : Constraint) → Makes j f c → c ≡ constraint j f) → (c : Constraint) → Placed t l Makes (Ok c)
           → position_line constraint T (line_fields l) ≡ constrain T c
       placed_goes makes c h = go (position_in t l) refl h
         where
           go : (p : Check (ℕ × ℕ)) → position_in t l ≡ p → placed p Makes (Ok c) → position_line constraint T (line_fields l) ≡ constrain T c
-          go (Err g) e h = let z : ◌≡◌ {A = ℕ} 0 1 = cc in absurd (omega arith)
+          go (Err g) e h = absurd cc
           go (Ok (j, f)) e h =
               let x = h.2 in
               let same : c ≡ h.0 = cc in

@@ -25,8 +25,8 @@ short_len fs k most ns e = go (all name_form (items (at fs k))) (leb (length (it
   where
     go : (a b : Bool) → (T b → length (items (at fs k)) ≤ most) → ◌≡◌ {A = Read (List Bytes)} (Ok ns) (cond a (cond b (Ok (items (at fs k))) (not_in_range k)) (not_form k)) → length ns ≤ most
     go true true h e = let q : ns ≡ items (at fs k) = cc in let l = ap length q in let m = h tt in omega arith
-    go true false h e = let z : ◌≡◌ {A = ℕ} 0 1 = cc in absurd (omega arith)
-    go false b h e = let z : ◌≡◌ {A = ℕ} 0 1 = cc in absurd (omega arith)
+    go true false h e = absurd cc
+    go false b h e = absurd cc
 
 -- an element put at the end of a short list, where there was room
 module _ {A : Type 0} (b : Bool) (xs : List A) where
@@ -35,13 +35,13 @@ module _ {A : Type 0} (b : Bool) (xs : List A) where
     where
       go : (b : Bool) → Some ys ≡ cond b (Some xs) None → (ys ≡ xs) × (b ≡ true)
       go true e = (cc, refl)
-      go false e = let z : ◌≡◌ {A = ℕ} 0 1 = cc in absurd (omega arith)
+      go false e = absurd cc
 
   pub with_none : None ≡ cond b (Some xs) None → b ≡ false
   with_none e = go b e
     where
       go : (b : Bool) → None ≡ cond b (Some xs) None → b ≡ false
-      go true e = let z : ◌≡◌ {A = ℕ} 0 1 = cc in absurd (omega arith)
+      go true e = absurd cc
       go false e = refl
 
 pub with_room : {A : Type 0} (xs : List A) (x : A) → length xs < 4 → cond (ltb (length xs) 4) (with_last xs x) xs ≡ with_last xs x

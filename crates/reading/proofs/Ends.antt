@@ -28,14 +28,14 @@ From s t n ls u x =
     All (λ (a : Answer). a ≡ Ok tt) ((taken s t (counted n) x).0 ∷ answers (taken s t (counted n) x).1 ls) × ((m : ℕ) × (after_all (taken s t (counted n) x).1 ls ≡ reading Closed u m))
 
 pub goes_ends : (ls : List Bytes) (s : Section) (t : Tables) (n : ℕ) (u : Tables) → Goes (reading s t n) ls u → Ends s t ls u
-goes_ends [] s t n u h = let e = h.1.1 in (cc (e), cc (e))
+goes_ends [] s t n u h = (cc h.1.1, cc h.1.1)
 goes_ends (l ∷ ls) s t n u h = go (goes_ends ls) (line s t l) refl h
   where
     go : ((s : Section) (t : Tables) (n : ℕ) (u : Tables) → Goes (reading s t n) ls u → Ends s t ls u) → (x : Check (Section × Tables)) → line s t l ≡ x → From s t n ls u x → Ends s t (l ∷ ls) u
     go ih (Ok (r, v)) e h =
         let c = line_inv s t l (r, v) e in
         (c.0, v, c.2, subst (λ (r : Section). Ends r v ls u) (sym c.1) (ih r v (counted n) u (h.0.1, h.1)))
-    go ih (Err f) e h = let g = h.0.0 in let z : ◌≡◌ {A = ℕ} 0 1 = cc (g) in absurd (omega arith)
+    go ih (Err f) e h = absurd (cc h.0.0)
 
 pub ends_goes : (ls : List Bytes) (s : Section) (t : Tables) (n : ℕ) (u : Tables) → Ends s t ls u → Goes (reading s t n) ls u
 ends_goes [] s t n u h = let p = h.0 in let q = h.1 in (tt, (n, cc))

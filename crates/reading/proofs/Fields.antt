@@ -19,12 +19,12 @@ T_true false h = elim h [ ]
 
 pub true_T : (b : Bool) → b ≡ true → T b
 true_T true e = tt
-true_T false e = let z : ◌≡◌ {A = ℕ} 0 1 = cc in absurd (omega arith)
+true_T false e = absurd cc
 
 module _ {A E : Type 0} where
   chosen : (b : Bool) (x : Result A E) (e : E) (y : A) → cond b x (Err e) ≡ Ok y → T b × (x ≡ Ok y)
   chosen true x e y h = (tt, h)
-  chosen false x e y h = let z : ◌≡◌ {A = ℕ} 0 1 = cc in absurd (omega arith)
+  chosen false x e y h = absurd cc
 
   choose : (b : Bool) (x : Result A E) (e : E) (y : A) → T b → x ≡ Ok y → cond b x (Err e) ≡ Ok y
   choose true x e y h k = k
@@ -84,7 +84,7 @@ module _ (fs : List Bytes) (k : ℕ) where
       go : (a b : Bool) → only 118 (at fs k) ≡ a → only 110 (at fs k) ≡ b → (v : Bool) → ◌≡◌ {A = Read Bool} (cond a (Ok true) (cond b (Ok false) (not_form k))) (Ok v) → IsMark (at fs k) v
       go true b p q v e = let z : true ≡ v = cc in subst (IsMark (at fs k)) z (only-is 118 (at fs k) (true_T _ p))
       go false true p q v e = let z : false ≡ v = cc in subst (IsMark (at fs k)) z (only-is 110 (at fs k) (true_T _ q))
-      go false false p q v e = let z : ◌≡◌ {A = ℕ} 0 1 = cc in absurd (omega arith)
+      go false false p q v e = absurd cc
 
   pub said-mark : (v : Bool) → IsMark (at fs k) v → field (mark_in fs k) ≡ Ok v
   said-mark true h = ap (λ (f : Bytes). field (cond (only 118 f) (Ok true) (cond (only 110 f) (Ok false) (not_form k)))) h

@@ -184,7 +184,7 @@ module _ (F : List Bytes) (A : List ActionEntry) (K : List TaskEntry) where
       (ih ms (constrained x m) u (omega arith) (omega arith) (subst (λ (t : Tables). Ends Methods t ls u) (sym c.3 ∙ ap (tables F A K) (on_last_lem (constrained x) ms m)) e))
 
   opened : (ls : List Bytes) → Opens ls
-  opened [] ms m u h k e = let q = e.0 in let z : ◌≡◌ {A = ℕ} 0 1 = cc in absurd (omega arith)
+  opened [] ms m u h k e = absurd (cc e.0)
   opened (l ∷ ls) ms m u h k (kind.Fact, v, d, e) = elim d.here [ ]
   opened (l ∷ ls) ms m u h k (kind.Action, v, d, e) = elim d.here [ ]
   opened (l ∷ ls) ms m u h k (kind.Task, v, d, e) = elim d.here [ ]
@@ -254,7 +254,7 @@ module _ (F : List Bytes) (A : List ActionEntry) where
   task_line_lem s kind.Closing K l v ls u ih a n h d e = no_tasks K (l ∷ ls) u (n, h, closing_blocks F A K s [] l v ls u (omega arith) d e)
 
   tasks : (ls : List Bytes) → TaskRests ls
-  tasks [] K u n h e = let q = e.0 in let z : ◌≡◌ {A = ℕ} 0 1 = cc in absurd (omega arith)
+  tasks [] K u n h e = absurd (cc e.0)
   tasks (l ∷ ls) K u n h (c, v, d, e) = task_line_lem Tasks c K l v ls u (tasks ls) d.here n h d e
 
 module _ (F : List Bytes) where
@@ -305,7 +305,7 @@ module _ (F : List Bytes) where
   action_line_lem s kind.Closing A l v ls u ih a n h d e = no_actions A (l ∷ ls) u (h, task_line_lem F A s kind.Closing [] l v ls u (tasks F A ls) tt n (omega arith) d e)
 
   actions : (ls : List Bytes) → ActionRests ls
-  actions [] A u n h e = let q = e.0 in let z : ◌≡◌ {A = ℕ} 0 1 = cc in absurd (omega arith)
+  actions [] A u n h e = absurd (cc e.0)
   actions (l ∷ ls) A u n h (c, v, d, e) = action_line_lem Actions c A l v ls u (actions ls) d.here n h d e
 
 abbrev Facted : List Bytes → List Bytes → Tables → Type 0
@@ -353,7 +353,7 @@ fact-line kind.Between F l v ls u ih n h d e = elim d.here [ ]
 fact-line kind.Closing F l v ls u ih n h d e = no_facts F (l ∷ ls) u (n, h, action_line_lem F Facts kind.Closing [] l v ls u (actions F ls) tt tt (omega arith) d e)
 
 facts : (ls : List Bytes) → FactRests ls
-facts [] F u n h e = let q = e.0 in let z : ◌≡◌ {A = ℕ} 0 1 = cc in absurd (omega arith)
+facts [] F u n h e = absurd (cc e.0)
 facts (l ∷ ls) F u n h (c, v, d, e) = fact-line c F l v ls u (facts ls) n h d e
 
 -- what an accepted text declares

@@ -31,7 +31,7 @@ use Rattle.reading.proofs.Parts.{method_parts, parts_method, sound-parts, parts-
 -- what is read
 kept : {A : Type 0} (b : Bool) (x : Read A) (e : FieldFault) (y : A) → cond b x (Err e) ≡ Ok y → T b × (x ≡ Ok y)
 kept true x e y q = (tt, q)
-kept false x e y q = let z : ◌≡◌ {A = ℕ} 0 1 = cc in absurd (omega arith)
+kept false x e y q = absurd cc
 
 pub number_in_lem : (fs : List Bytes) (k low high v : ℕ) → field (number_in fs k low high) ≡ Ok v → (low ≤ v) × (v ≤ high)
 number_in_lem fs k low high v e =
@@ -45,13 +45,13 @@ number_in_lem fs k low high v e =
     (omega arith, omega arith)
 
 pub index_lt : (n : Bytes) (known : List Bytes) (i : ℕ) → index_of n known ≡ Some i → i < length known
-index_lt n [] i e = let z : ◌≡◌ {A = ℕ} 0 1 = cc in absurd (omega arith)
+index_lt n [] i e = absurd cc
 index_lt n (x ∷ xs) i e = go (bytes_eq x n) (index_of n xs) (index_lt n xs) i e
   where
     go : (b : Bool) (o : Option ℕ) → ((j : ℕ) → o ≡ Some j → j < length xs) → (i : ℕ) → cond b (Some 0) (next o) ≡ Some i → i < suc (length xs)
     go true o h i e = let q : 0 ≡ i = cc in omega arith
     go false (Some j) h i e = let q : suc j ≡ i = cc in let k = h j refl in omega arith
-    go false None h i e = let z : ◌≡◌ {A = ℕ} 0 1 = cc in absurd (omega arith)
+    go false None h i e = absurd cc
 
 old_lt : (known : List Bytes) (fs : List Bytes) (k i : ℕ) → old_name (λ n. index_of n known) fs k ≡ Ok i → i < length known
 old_lt known fs k i e =
@@ -71,7 +71,7 @@ symbol_in_lem t n s e = go (index_of n (action_names t)) (task_of t n) (index_lt
         let q : Compound i ≡ s = cc in
         let g : i < length (ranks t) = simp length-map (simp length-map at (k i refl)) in
         subst (λ (s : Subtask). T (subtask_in (length t.actions) (length (ranks t)) s)) q (lt→ltb i (length (ranks t)) g)
-    go None None h k s e = let z : ◌≡◌ {A = ℕ} 0 1 = cc in absurd (omega arith)
+    go None None h k s e = absurd cc
 
 -- what each step of taking keeps, the whole keeps
 takes : {A B : Type 0} (P : B → Type 0) (step : B → A → B) (find : Bytes → Option A) (e : DomainFault)

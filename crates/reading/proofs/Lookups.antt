@@ -75,13 +75,13 @@ unsame x n h = go (bytes_eq x n) refl
     go false e = refl
 
 pub index_names : (n : Bytes) (tb : List Bytes) (i : ℕ) → index_of n tb ≡ Some i → Names tb n i
-index_names n [] i e = let z : ◌≡◌ {A = ℕ} 0 1 = cc in absurd (omega arith)
+index_names n [] i e = absurd cc
 index_names n (x ∷ xs) i e = go (bytes_eq x n) (index_of n xs) refl (index_names n xs) i e
   where
     go : (b : Bool) (o : Option ℕ) → bytes_eq x n ≡ b → ((j : ℕ) → o ≡ Some j → Names xs n j) → (i : ℕ) → cond b (Some 0) (next o) ≡ Some i → Names (x ∷ xs) n i
     go true o q h i e = let z : 0 ≡ i = cc in subst (Names (x ∷ xs) n) z (omega arith, same_true x n q)
     go false (Some j) q h i e = let z : suc j ≡ i = cc in let k = h j refl in subst (Names (x ∷ xs) n) z (omega arith, k.1)
-    go false None q h i e = let z : ◌≡◌ {A = ℕ} 0 1 = cc in absurd (omega arith)
+    go false None q h i e = absurd cc
 
 pub names_index : (n : Bytes) (tb : List Bytes) (i : ℕ) → Distinct tb → Names tb n i → index_of n tb ≡ Some i
 names_index n [] i d h = absurd (not-suc-le-zero h.0)
@@ -96,8 +96,8 @@ none_fresh n [] e = tt
 none_fresh n (x ∷ xs) e = go (bytes_eq x n) (index_of n xs) refl (none_fresh n xs) e
   where
     go : (b : Bool) (o : Option ℕ) → bytes_eq x n ≡ b → (o ≡ None → Fresh n xs) → cond b (Some 0) (next o) ≡ None → Fresh n (x ∷ xs)
-    go true o q h e = let z : ◌≡◌ {A = ℕ} 0 1 = cc in absurd (omega arith)
-    go false (Some j) q h e = let z : ◌≡◌ {A = ℕ} 0 1 = cc in absurd (omega arith)
+    go true o q h e = absurd cc
+    go false (Some j) q h e = absurd cc
     go false None q h e = (same_false x n q, h refl)
 
 pub fresh_none : (n : Bytes) (tb : List Bytes) → Fresh n tb → index_of n tb ≡ None
@@ -115,7 +115,7 @@ module _ (t : Tables) (n : Bytes) where
       go : (a j : Option ℕ) → ((i : ℕ) → a ≡ Some i → Names (action_names t) n i) → ((i : ℕ) → j ≡ Some i → Names (task_names t) n i) → (s : Subtask) → or_task a j ≡ Some s → IsSubtask t n s
       go (Some i) j h k s e = let q : Primitive i ≡ s = cc in subst (IsSubtask t n) q (h i refl)
       go None (Some i) h k s e = let q : Compound i ≡ s = cc in subst (IsSubtask t n) q (k i refl)
-      go None None h k s e = let z : ◌≡◌ {A = ℕ} 0 1 = cc in absurd (omega arith)
+      go None None h k s e = absurd cc
 
   pub names_symbol : (s : Subtask) → Distinct (symbols t) → IsSubtask t n s → symbol_of t n ≡ Some s
   names_symbol (Primitive a) d h = ap (λ (o : Option ℕ). or_task o (task_of t n)) (names_index n (action_names t) a (distinct_left (action_names t) (task_names t) d) h)
@@ -128,8 +128,8 @@ module _ (t : Tables) (n : Bytes) where
   none_symbol e = go (index_of n (action_names t)) (task_of t n) (none_fresh n (action_names t)) (none_fresh n (task_names t)) e
     where
       go : (a j : Option ℕ) → (a ≡ None → Fresh n (action_names t)) → (j ≡ None → Fresh n (task_names t)) → or_task a j ≡ None → Fresh n (symbols t)
-      go (Some i) j h k e = let z : ◌≡◌ {A = ℕ} 0 1 = cc in absurd (omega arith)
-      go None (Some i) h k e = let z : ◌≡◌ {A = ℕ} 0 1 = cc in absurd (omega arith)
+      go (Some i) j h k e = absurd cc
+      go None (Some i) h k e = absurd cc
       go None None h k e = all_both (λ x. x ≡ n → ⊥) (action_names t) (task_names t) (h refl) (k refl)
 
   pub symbol_none : Fresh n (symbols t) → symbol_of t n ≡ None

@@ -31,7 +31,7 @@ faulted_open Methods t n d o = refl
 faulted_open Closed t n d o = absurd (o refl)
 
 taken_refused : (s : Section) (t : Tables) (n : ℕ) (x : Check (Section × Tables)) (f : Fault) → (s ≡ Closed → ⊥) → (taken s t n x).0 ≡ Err f → (taken s t n x).1 ≡ refused f
-taken_refused s t n (Ok (r, u)) f o e = let z : ◌≡◌ {A = ℕ} 0 1 = cc in absurd (omega arith)
+taken_refused s t n (Ok (r, u)) f o e = absurd cc
 taken_refused s t n (Err d) f o e = faulted_open s t n d o ∙ cc
 
 refuses : (r : Reader) (l : Bytes) (f : Fault) → ((t : Tables) (n : ℕ) → r ≡ reading Closed t n → ⊥) → (reads r l).0 ≡ Err f → (reads r l).1 ≡ refused f

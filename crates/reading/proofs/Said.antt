@@ -46,12 +46,12 @@ kind_code : (b : ℕ) (c : Kind) → kind_at b ≡ Some c → b ≡ code c
 kind_code b c e =
     or_else b kind.Fact _ c e (λ e. or_else b kind.Action _ c e (λ e. or_else b kind.Task _ c e (λ e. or_else b kind.Method _ c e (λ e.
     or_else b kind.Before _ c e (λ e. or_else b kind.After _ c e (λ e. or_else b kind.Between _ c e (λ e. or_else b kind.Closing None c e (λ e.
-    let z : ◌≡◌ {A = ℕ} 0 1 = cc in absurd (omega arith)))))))))
+    absurd cc))))))))
 
 letter_of : (f : Bytes) (c : Kind) → kind_of f ≡ Some c → f ≡ code c ∷ []
-letter_of [] c e = let z : ◌≡◌ {A = ℕ} 0 1 = cc in absurd (omega arith)
+letter_of [] c e = absurd cc
 letter_of (b ∷ []) c e = ap (λ (x : ℕ). x ∷ []) (kind_code b c e)
-letter_of (b ∷ d ∷ bs) c e = let z : ◌≡◌ {A = ℕ} 0 1 = cc in absurd (omega arith)
+letter_of (b ∷ d ∷ bs) c e = absurd cc
 
 of_letter : (c : Kind) → kind_of (code c ∷ []) ≡ Some c
 of_letter kind.Fact = refl
