@@ -1,34 +1,71 @@
--- tests of every element of a list
-use Rattle.std.proofs.Common.{◌≡◌, ℕ, zero, suc, ◌<◌, Bool, true, T, List, [], ◌∷◌, ◌++◌, length, get_or, refl, ap, arith}
+-- what holds of every element of a list, and of each two elements of two lists; and the tests that decide it
+use Rattle.std.proofs.Common.{◌≡◌, ℕ, zero, suc, ◌<◌, ◌≤◌, Bool, ◌&&◌, ltb, leb, List, [], ◌∷◌, ◌++◌, length, get_or, refl, ap, le_of_suc-le-suc, not-suc-le-zero, le→leb, ltb→lt, lt→ltb, leb→le}
 use Rattle.theory.specs.Lists.{All, all}
+use Rattle.theory.specs.Rules.{Decides}
 use Rattle.theory.proofs.Lists.{and_both, both-and}
 use Rattle.reading.specs.Tables.{on_last, last_or}
+use Rattle.reading.specs.Declares.{Each}
 
-module _ {A : Type 0} (p : A → Bool) where
-  pub all_push : (xs : List A) (y : A) → T (all p xs) → T (p y) → T (all p (xs ++ y ∷ []))
-  all_push [] y h k = both-and (p y) true k tt
-  all_push (x ∷ xs) y h k = let g = and_both (p x) (all p xs) h in both-and (p x) (all p (xs ++ y ∷ [])) g.0 (all_push xs y g.1 k)
+module _ {A : Type 0} (P : A → Type 0) where
+  pub all-at : (xs : List A) (i : ℕ) (d : A) → All P xs → i < length xs → P (get_or xs i d)
+  all-at [] i d h k = absurd (not-suc-le-zero k)
+  all-at (x ∷ xs) zero d h k = h.0
+  all-at (x ∷ xs) (suc i) d h k = all-at xs i d h.1 (le_of_suc-le-suc k)
 
-  pub all_last : (f : A → A) (d : A) (xs : List A) → T (all p xs) → (T (p (last_or d xs)) → T (p (f (last_or d xs)))) → T (all p (on_last f xs))
+  pub all_left : (xs ys : List A) → All P (xs ++ ys) → All P xs
+  all_left [] ys h = tt
+  all_left (x ∷ xs) ys h = (h.0, all_left xs ys h.1)
+
+  pub all_right : (xs ys : List A) → All P (xs ++ ys) → All P ys
+  all_right [] ys h = h
+  all_right (x ∷ xs) ys h = all_right xs ys h.1
+
+  pub all_both : (xs ys : List A) → All P xs → All P ys → All P (xs ++ ys)
+  all_both [] ys h k = k
+  all_both (x ∷ xs) ys h k = (h.0, all_both xs ys h.1 k)
+
+  pub all_last : (f : A → A) (d : A) (xs : List A) → All P xs → (P (last_or d xs) → P (f (last_or d xs))) → All P (on_last f xs)
   all_last f d [] h k = tt
-  all_last f d (x ∷ []) h k = both-and (p (f x)) true (k (and_both (p x) true h).0) tt
-  all_last f d (x ∷ y ∷ ys) h k =
-      let g = and_both (p x) (all p (y ∷ ys)) h in both-and (p x) (all p (on_last f (y ∷ ys))) g.0 (all_last f x (y ∷ ys) g.1 k)
+  all_last f d (x ∷ []) h k = (k h.0, tt)
+  all_last f d (x ∷ y ∷ ys) h k = (h.0, all_last f x (y ∷ ys) h.1 k)
 
-  pub all_sub : (q : A → Bool) → ((x : A) → T (p x) → T (q x)) → (xs : List A) → T (all p xs) → T (all q xs)
-  all_sub q f [] h = tt
-  all_sub q f (x ∷ xs) h = let g = and_both (p x) (all p xs) h in both-and (q x) (all q xs) (f x g.0) (all_sub q f xs g.1)
+pub all_map : {A : Type 0} (P Q : A → Type 0) → ((x : A) → P x → Q x) → (xs : List A) → All P xs → All Q xs
+all_map P Q f [] h = tt
+all_map P Q f (x ∷ xs) h = (f x h.0, all_map P Q f xs h.1)
 
-  pub at_all : (xs : List A) (d : A) (i : ℕ) → T (all p xs) → i < length xs → T (p (get_or xs i d))
-  at_all [] d i h k = absurd (omega arith)
-  at_all (x ∷ xs) d zero h k = (and_both (p x) (all p xs) h).0
-  at_all (x ∷ xs) d (suc i) h k = at_all xs d i (and_both (p x) (all p xs) h).1 (omega arith)
+module _ {A B : Type 0} (R : A → B → Type 0) where
+  pub each_map : (S : A → B → Type 0) → ((x : A) (y : B) → R x y → S x y) → (xs : List A) (ys : List B) → Each R xs ys → Each S xs ys
+  each_map S f [] [] h = tt
+  each_map S f [] (y ∷ ys) h = h
+  each_map S f (x ∷ xs) [] h = h
+  each_map S f (x ∷ xs) (y ∷ ys) h = (f x y h.0, each_map S f xs ys h.1)
 
-  pub each_of : (P : A → Type 0) → ((x : A) → T (p x) → P x) → (xs : List A) → T (all p xs) → All P xs
-  each_of P f [] h = tt
-  each_of P f (x ∷ xs) h = let g = and_both (p x) (all p xs) h in (f x g.0, each_of P f xs g.1)
+  pub each_length : (xs : List A) (ys : List B) → Each R xs ys → length xs ≡ length ys
+  each_length [] [] h = refl
+  each_length [] (y ∷ ys) h = absurd h
+  each_length (x ∷ xs) [] h = absurd h
+  each_length (x ∷ xs) (y ∷ ys) h = ap suc (each_length xs ys h.1)
+
+  pub each_right : (Q : B → Type 0) → ((x : A) (y : B) → R x y → Q y) → (xs : List A) (ys : List B) → Each R xs ys → All Q ys
+  each_right Q f xs [] h = tt
+  each_right Q f [] (y ∷ ys) h = absurd h
+  each_right Q f (x ∷ xs) (y ∷ ys) h = (f x y h.0, each_right Q f xs ys h.1)
 
 pub length_last : {A : Type 0} (f : A → A) (xs : List A) → length (on_last f xs) ≡ length xs
 length_last f [] = refl
 length_last f (x ∷ []) = refl
 length_last f (x ∷ y ∷ ys) = ap suc (length_last f (y ∷ ys))
+
+-- what the tests decide
+pub under : (a b : ℕ) → Decides (ltb a b) (a < b)
+under a b = (ltb→lt a b, lt→ltb a b)
+
+pub within : (a b : ℕ) → Decides (leb a b) (a ≤ b)
+within a b = (leb→le a b, le→leb a b)
+
+pub both : (a b : Bool) {P Q : Type 0} → Decides a P → Decides b Q → Decides (a && b) (P × Q)
+both a b d e = (λ h. let k = and_both a b h in (d.0 k.0, e.0 k.1), λ h. both-and a b (d.1 h.0) (e.1 h.1))
+
+pub each : {A : Type 0} (p : A → Bool) (P : A → Type 0) → ((x : A) → Decides (p x) (P x)) → (xs : List A) → Decides (all p xs) (All P xs)
+each p P d [] = (λ h. tt, λ h. tt)
+each p P d (x ∷ xs) = both (p x) (all p xs) (d x) (each p P d xs)

@@ -13,7 +13,8 @@ use Rattle.reading.specs.Tables.{Tables, ActionEntry, TaskEntry, constrained, on
 use Rattle.reading.specs.Lines.{last_method}
 use Rattle.reading.specs.Reading.{group, allowed}
 use Rattle.reading.specs.Declares.{Each, Distinct, IsFact, IsFactSet, IsAction, IsTask, IsConstraint, IsMethod, Block, block_lines, Declares}
-use Rattle.reading.proofs.Lookups.{each_map, distinct_more, symbols}
+use Rattle.reading.proofs.Alls.{each_map}
+use Rattle.reading.proofs.Lookups.{distinct_more, symbols}
 use Rattle.reading.proofs.Said.{Lined, alone, Constrains, fact-said, action_said, task_said, method_said, before_said, after_said, between_said, closing_said}
 use Rattle.reading.proofs.Ends.{Ends, ended}
 

@@ -8,29 +8,12 @@ use Rattle.theory.specs.Lists.{All}
 use Rattle.theory.specs.declared.Subtask.{Subtask}
 use Rattle.theory.specs.declared.Subtask.TheVariants.{Primitive, Compound}
 use Rattle.reading.specs.Tables.{Tables, action_names, task_names, next, index_of, or_task, task_of, symbol_of}
-use Rattle.reading.specs.Declares.{Each, Distinct, Names, IsSubtask}
+use Rattle.reading.specs.Declares.{Distinct, Names, IsSubtask}
+use Rattle.reading.proofs.Alls.{all-at, all_left, all_right, all_both}
 
 -- each of the names is another one
 abbrev pub Fresh : Bytes → List Bytes → Type 0
 Fresh n xs = All (λ x. x ≡ n → ⊥) xs
-
-module _ {A : Type 0} (P : A → Type 0) where
-  pub all-at : (xs : List A) (i : ℕ) (d : A) → All P xs → i < length xs → P (get_or xs i d)
-  all-at [] i d h k = absurd (not-suc-le-zero k)
-  all-at (x ∷ xs) zero d h k = h.0
-  all-at (x ∷ xs) (suc i) d h k = all-at xs i d h.1 (le_of_suc-le-suc k)
-
-  pub all_left : (xs ys : List A) → All P (xs ++ ys) → All P xs
-  all_left [] ys h = tt
-  all_left (x ∷ xs) ys h = (h.0, all_left xs ys h.1)
-
-  pub all_right : (xs ys : List A) → All P (xs ++ ys) → All P ys
-  all_right [] ys h = h
-  all_right (x ∷ xs) ys h = all_right xs ys h.1
-
-  pub all_both : (xs ys : List A) → All P xs → All P ys → All P (xs ++ ys)
-  all_both [] ys h k = k
-  all_both (x ∷ xs) ys h k = (h.0, all_both xs ys h.1 k)
 
 module _ {A : Type 0} where
   pub distinct_left : (xs ys : List A) → Distinct (xs ++ ys) → Distinct xs
@@ -53,13 +36,6 @@ module _ {A : Type 0} where
   pub distinct_apart : (xs ys : List A) (i : ℕ) (d : A) → Distinct (xs ++ ys) → i < length ys → All (λ x. x ≡ get_or ys i d → ⊥) xs
   distinct_apart [] ys i d h k = tt
   distinct_apart (x ∷ xs) ys i d h k = (all-at (λ y. x ≡ y → ⊥) ys i d (all_right (λ y. x ≡ y → ⊥) xs ys h.0) k, distinct_apart xs ys i d h.1 k)
-
-module _ {A B : Type 0} where
-  pub each_map : (R S : A → B → Type 0) → ((x : A) (y : B) → R x y → S x y) → (xs : List A) (ys : List B) → Each R xs ys → Each S xs ys
-  each_map R S f [] [] h = tt
-  each_map R S f [] (y ∷ ys) h = h
-  each_map R S f (x ∷ xs) [] h = h
-  each_map R S f (x ∷ xs) (y ∷ ys) h = (f x y h.0, each_map R S f xs ys h.1)
 
 same_true : (x n : Bytes) → bytes_eq x n ≡ true → x ≡ n
 same_true x n e = (bytes_eq-Decides x n).0 e

@@ -16,7 +16,7 @@ use Rattle.reading.specs.Reading.{kind_of, group, declared, head, line, Reader, 
 use Rattle.reading.specs.Laws.{ClosesWith, FirstFaultStays, letter_faults, ClosedStays, ClosedIsSound}
 use Rattle.reading.proofs.Checks.{bound, ok_eq, stop}
 use Rattle.reading.proofs.Keeps.{keeps}
-use Rattle.reading.proofs.Sounds.{sounds}
+use Rattle.reading.proofs.Sounds.{sound_decided}
 
 -- a refusal before the closing line
 refused_all : (f : Fault) (vs : List Bytes) → All (λ (a : Answer). a ≡ Err f) (answers (refused f) vs)
@@ -114,4 +114,4 @@ closed_stays us vs t n e =
     (omega arith, after_more start us vs ∙ ap (λ (r : Reader). after_all r vs) e ∙ h.0 ∙ ap (reading Closed t) k, ap (λ (r : Reader). answers r vs) e ∙ h.1)
 
 pub closed_is_sound : ClosedIsSound
-closed_is_sound = (λ us t n e. (closes us t n e).1, sounds)
+closed_is_sound = (λ us t n e. (closes us t n e).1, λ t. (sound_decided t).0)
