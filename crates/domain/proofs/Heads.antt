@@ -1,5 +1,6 @@
 -- the head of a line, from what its parts answer
 use Rattle.std.proofs.Common.{◌≡◌, ℕ, ◌≤◌, Bool, true, false, cond, ◌&&◌, eqb, leb, List, [], ◌∷◌, length, take, Some, None, Ok, Err, Option, Result, sym, refl, ap, ◌∙◌, ap₂, arith, eqb→eq, take_all}
+use Rattle.std.proofs.lemmas.Float.{T_from_true}
 use Rattle.std.specs.Option.{ok_or}
 use Rattle.fields.specs.Text.{Bytes, fields, at}
 use Rattle.fields.specs.declared.faults.LineFault.{LineFault}
@@ -13,7 +14,6 @@ use Rattle.reading.specs.declared.kinds.Kind.TheVariants as kind
 use Rattle.reading.specs.declared.kinds.Section.{Section}
 use Rattle.reading.proofs.Checks.{step, pass, fail}
 use Rattle.domain.specs.Steps.{kind_in, section_after}
-use Rattle.lines.proofs.Closing.{so}
 
 kind_is : (o : Option Kind) (c : Kind) → ◌≡◌ {A = Result Kind LineFault} (Ok c) (ok_or o Letter) → o ≡ Some c
 kind_is (Some d) c e = let q : c ≡ d = cc in ap Some (sym q)
@@ -87,7 +87,7 @@ module _ (l : Bytes) (five : List Bytes) (first : five ≡ take 5 (fields l)) (n
   -- a line of the right number of fields has no others
   pub all-fields : Ok tt ≡ counting (counts n len) → five ≡ fields l
   all-fields e =
-      let q = eqb→eq _ _ (and_both (eqb n k) (leb len 255) (so _ (counted_ok e))).0 in
+      let q = eqb→eq _ _ (and_both (eqb n k) (leb len 255) (T_from_true _ (counted_ok e))).0 in
       first ∙ take_all 5 (fields l) (omega (arith, q, at_most_five c))
 
   module _ (s : Section) (f : Bytes) (at_one : f ≡ at five 1) (is : Ok c ≡ kind_in f) (here : allowed s c ≡ true) where

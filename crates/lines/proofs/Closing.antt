@@ -1,39 +1,32 @@
 -- from the test that a domain's type carries to the facts, and back
 use Rattle.std.proofs.Common.{◌≡◌, ℕ, Bool, true, false, ◌&&◌, T, leb, List, Ok, Err, vec_capacity, Result, sym, refl, ap, ◌∙◌, subst}
-use mathlib.Core.Bool.{false≢true}
+use lib.Ieee.Bits.{is_true}
+use Rattle.std.proofs.lemmas.Float.{T_from_true}
 use Rattle.fields.specs.Text.{Bytes}
 use Rattle.theory.proofs.Lists.{and_both, both-and}
-use Rattle.reading.specs.Sound.{sound}
+use Rattle.reading.specs.Sound.{Sound, sound}
 use Rattle.reading.specs.Reading.{declared}
 use Rattle.reading.specs.Tables as plain
 use Rattle.reading.specs.declared.faults.DomainFault.{DomainFault}
 use Rattle.reading.specs.declared.kinds.Kind.{Kind}
 use Rattle.reading.proofs.Keeps.{keeps}
-use Rattle.reading.proofs.Parts.{Parts, sound-parts}
+use Rattle.reading.proofs.Sounds.{sound_decided}
 use Rattle.lines.specs.declared.filled.Tables.{Tables}
 use Rattle.lines.specs.Closes.{meant, roomy, closes}
 use Rattle.lines.specs.Took.{Took}
 
-pub so : (b : Bool) → b ≡ true → T b
-so true e = tt
-so false e = false≢true e
-
-pub is_true : (b : Bool) → T b → b ≡ true
-is_true true h = refl
-is_true false h = elim h [ ]
-
 module _ (t : Tables) where
   pub closed_sound : closes t ≡ true → T (sound (meant t))
-  closed_sound e = (and_both (sound (meant t)) (roomy t) (so _ e)).0
+  closed_sound e = (and_both (sound (meant t)) (roomy t) (T_from_true _ e)).0
 
   pub closed_roomy : closes t ≡ true → roomy t ≡ true
-  closed_roomy e = is_true _ (and_both (sound (meant t)) (roomy t) (so _ e)).1
+  closed_roomy e = is_true _ (and_both (sound (meant t)) (roomy t) (T_from_true _ e)).1
 
   pub closed_of : T (sound (meant t)) → roomy t ≡ true → closes t ≡ true
-  closed_of h e = is_true _ (both-and (sound (meant t)) (roomy t) h (so _ e))
+  closed_of h e = is_true _ (both-and (sound (meant t)) (roomy t) h (T_from_true _ e))
 
-  pub closed_parts : closes t ≡ true → Parts (meant t)
-  closed_parts e = sound-parts (meant t) (closed_sound e)
+  pub closed_parts : closes t ≡ true → Sound (meant t)
+  closed_parts e = (sound_decided (meant t)).0 (closed_sound e)
 
   abbrev Roomy : ℕ → ℕ → ℕ → ℕ → Type 0
   Roomy a b c d = leb 64 a && (leb 64 b && (leb 48 c && leb 128 d)) ≡ true

@@ -1,5 +1,7 @@
 -- what a field says, both ways
 use Rattle.std.proofs.Common.{◌≡◌, ℕ, ◌≤◌, Bool, true, false, cond, ◌&&◌, T, eqb, leb, List, [], ◌∷◌, ◌++◌, length, Some, None, Ok, Err, Option, Result, sym, refl, ap, ◌∙◌, subst, append_assoc, append-nil, arith, le→leb, eqb→eq, leb→le}
+use lib.Ieee.Bits.{is_true}
+use Rattle.std.proofs.lemmas.Float.{T_from_true}
 use Rattle.fields.specs.Text.{Bytes, at, name_form, number_form, value, only, items}
 use Rattle.fields.specs.Read.{Read, name_in, number_in, mark_in, list_in, short_list_in, not_form}
 use Rattle.theory.specs.Lists.{All, all}
@@ -13,14 +15,6 @@ use Rattle.reading.specs.Declares.{Each, Distinct, Names, IsNumber, IsMark, set_
 use Rattle.reading.proofs.Checks.{step, pass, bound, passed, got, read, ok_eq}
 use Rattle.reading.proofs.Alls.{each_map}
 use Rattle.reading.proofs.Lookups.{index_names, names_index, symbol_names_lem, names_symbol, symbols}
-
-pub T_true : (b : Bool) → T b → b ≡ true
-T_true true h = refl
-T_true false h = elim h [ ]
-
-pub true_T : (b : Bool) → b ≡ true → T b
-true_T true e = tt
-true_T false e = absurd cc
 
 module _ {A E : Type 0} where
   chosen : (b : Bool) (x : Result A E) (e : E) (y : A) → cond b x (Err e) ≡ Ok y → T b × (x ≡ Ok y)
@@ -83,8 +77,8 @@ module _ (fs : List Bytes) (k : ℕ) where
   mark-said v e = go (only 118 (at fs k)) (only 110 (at fs k)) refl refl v (read (mark_in fs k) v e)
     where
       go : (a b : Bool) → only 118 (at fs k) ≡ a → only 110 (at fs k) ≡ b → (v : Bool) → ◌≡◌ {A = Read Bool} (cond a (Ok true) (cond b (Ok false) (not_form k))) (Ok v) → IsMark (at fs k) v
-      go true b p q v e = let z : true ≡ v = cc in subst (IsMark (at fs k)) z (only-is 118 (at fs k) (true_T _ p))
-      go false true p q v e = let z : false ≡ v = cc in subst (IsMark (at fs k)) z (only-is 110 (at fs k) (true_T _ q))
+      go true b p q v e = let z : true ≡ v = cc in subst (IsMark (at fs k)) z (only-is 118 (at fs k) (T_from_true _ p))
+      go false true p q v e = let z : false ≡ v = cc in subst (IsMark (at fs k)) z (only-is 110 (at fs k) (T_from_true _ q))
       go false false p q v e = absurd cc
 
   pub said-mark : (v : Bool) → IsMark (at fs k) v → field (mark_in fs k) ≡ Ok v

@@ -2,6 +2,7 @@
 use Rattle.std.proofs.Common.{◌≡◌, ℕ, zero, suc, ◌<◌, ◌≤◌, Bool, true, false, cond, ◌&&◌, T, eqb, ltb, leb, List, [], ◌∷◌, length, get_or, Some, None, Ok, codes, Option, sym, refl, ap, ◌∙◌, subst, arith, le→leb, eqb→eq, ltb→lt, lt→ltb, leb→le, eq-eqb}
 use lib.Bits.{bit_and}
 use lib.Dec.{eqb_refl}
+use lib.Ieee.Bits.{is_true}
 use Rattle.fields.specs.Text.{Bytes, tab, joined, fields, at}
 use Rattle.fields.proofs.Cuts.{parted_cut}
 use Rattle.fields.specs.Read.{number_in, mark_in}
@@ -21,7 +22,7 @@ use Rattle.reading.specs.Reading.{kind_at, kind_of, group, allowed, field_count,
 use Rattle.reading.specs.Declares.{Distinct, IsFact, IsAction, IsTask, IsConstraint, IsMethod, Block}
 use Rattle.reading.proofs.Checks.{step, pass, bound, passed, got, ok_eq}
 use Rattle.reading.proofs.Lookups.{Fresh, index_names, names_index, none_fresh, fresh_none, symbols, none_symbol, symbol_none, distinct_right}
-use Rattle.reading.proofs.Fields.{T_true, new-said, said-new, old_said, said_old, number-said, said-number, mark-said, said-mark, set_said, said_set, subtasks-said, said-subtasks}
+use Rattle.reading.proofs.Fields.{new-said, said-new, old_said, said_old, number-said, said-number, mark-said, said-mark, set_said, said_set, subtasks-said, said-subtasks}
 use Rattle.theory.proofs.Rules.{rules_decided}
 
 -- the byte of a kind's letter
@@ -75,7 +76,7 @@ pub line_of : (s : Section) (t : Tables) (l : Bytes) (c : Kind) (v : Tables) →
 line_of s t l c v d =
     let b = both-and (eqb (length (fields l)) (field_count c)) (leb (length l) 255) (subst (λ (k : ℕ). T (eqb (length (fields l)) k)) d.count (eqb_refl (length (fields l)))) (le→leb _ _ d.short) in
     step _ (step _ (ap (λ (f : Bytes). found (kind_of f) (Line Letter)) d.letter ∙ ap (λ (o : Option Kind). found o (Line Letter)) (of_letter c))
-    (pass (Line Letter) (T_true _ d.here) (pass (Line (Count (length (fields l)))) (T_true _ b) refl)))
+    (pass (Line Letter) (is_true _ d.here) (pass (Line (Count (length (fields l)))) (is_true _ b) refl)))
     (step (λ v. Ok (group c, v)) d.said refl)
 
 pub line_inv : (s : Section) (t : Tables) (l : Bytes) (r : Section × Tables) → line s t l ≡ Ok r → (c : Kind) × (group c ≡ r.0) × Lined s t l c r.1
@@ -309,7 +310,7 @@ kind_for (Between i f j) = kind.Between
 -- a line that says this, where it may, is accepted
 module _ (s : Section) (t : Tables) (l : Bytes) where
   roomy : {n most : ℕ} → n < most → ltb n most ≡ true
-  roomy h = T_true _ (lt→ltb _ _ h)
+  roomy h = is_true _ (lt→ltb _ _ h)
 
   pub said_closing : T (allowed s kind.Closing) → Lined s t (codes "E") kind.Closing t
   said_closing h = record { letter = refl; here = h; count = refl; short = omega arith; said = refl }
@@ -368,7 +369,7 @@ module _ (s : Section) (t : Tables) (l : Bytes) where
             ∙ step _ (said_old fs 2 (task_of t) m.owner i.form (names_index i.owner (task_names t) m.owner (distinct_right (action_names t) (task_names t) d) i.owned))
             (step _ (said-number fs 3 0 1000 m.price i.priced) (step _ (said-number fs 4 0 9 m.grade i.graded)
             (step _ (said-subtasks t fs 5 m.subtasks d i.names i.few i.parts)
-            (pass Full (roomy r) (pass Mark (T_true _ (rules.0.1 i.mark)) (pass Ladder (T_true _ (rules.1.1 i.ladder)) refl))))));
+            (pass Full (roomy r) (pass Mark (is_true _ (rules.0.1 i.mark)) (pass Ladder (is_true _ (rules.1.1 i.ladder)) refl))))));
       }
 
   pub said_constraint : (x : Constraint) → T (allowed s (kind_for x)) → IsConstraint t (arity t) l x → Distinct t.facts → length (last_method t).constraints < 4 → Lined s t l (kind_for x) (add_constraint t x)

@@ -4,7 +4,7 @@ use Rattle.reading.specs.Lines.{field, taking, with_fact}
 use Rattle.reading.specs.Tables.{fact_of}
 use Rattle.reading.specs.declared.faults.DomainFault.TheVariants.{Undeclared}
 use Rattle.reading.proofs.Checks.{step}
-use Rattle.reading.proofs.Keeps.{index_lt}
+use Rattle.reading.proofs.Lookups.{index_names}
 use Rattle.lines.specs.Closes.{meant}
 use Rattle.lines.proofs.Closing.{closed_parts}
 use Rattle.lines.proofs.Takes.{take_more, take_none, take_end}
@@ -23,7 +23,7 @@ pub with_fact-set-requires : goal.with_fact-set-requires
 with_fact-set-requires c =
     let t = meant c.args.self.now.tables in
     let f : fact_of t c.in-Some.name.now ≡ Some c.in-Some-fact.f = sym c.fact.ensures ∙ c.in-Some-fact.is in
-    omega (arith, index_lt _ t.facts _ f, (closed_parts c.args.self.now.tables c.args.self.now.ok).facts)
+    omega (arith, (index_names _ t.facts _ f).0, (closed_parts c.args.self.now.tables c.args.self.now.ok).facts)
 
 pub loop-name-preserved : goal.loop-name-preserved
 loop-name-preserved c =
