@@ -1,15 +1,16 @@
 -- what each kind of line says, both ways
-use Rattle.std.proofs.Common.{◌≡◌, ℕ, zero, suc, ◌<◌, ◌≤◌, Bool, true, false, cond, ◌&&◌, T, eqb, ltb, leb, List, [], ◌∷◌, length, get_or, Some, None, Ok, codes, Option, sym, refl, ap, ◌∙◌, subst, arith, le→leb, eqb→eq, ltb→lt, lt→ltb, leb→le, eq-eqb}
+use Rattle.std.proofs.Common.{◌≡◌, ℕ, zero, suc, ◌<◌, ◌≤◌, Bool, true, false, cond, ◌&&◌, T, eqb, ltb, leb, List, [], ◌∷◌, length, map, get_or, lt-ltb, Some, None, Ok, codes, Option, sym, refl, ap, ◌∙◌, subst, arith, le→leb, eqb→eq, ltb→lt, lt→ltb, leb→le, eq-eqb}
 use lib.Bits.{bit_and}
-use lib.Dec.{eqb_refl}
 use lib.Ieee.Bits.{is_true}
+use Rattle.std.specs.List.{range_with_len}
+use Rattle.std.proofs.lemmas.Bool.Decides.{nat_tests}
+use Rattle.std.proofs.lemmas.List.FromFn.{fill_by_all}
 use Rattle.fields.specs.Text.{Bytes, tab, joined, fields, at}
 use Rattle.fields.proofs.Cuts.{parted_cut}
 use Rattle.fields.specs.Read.{number_in, mark_in}
 use Rattle.fields.specs.declared.faults.LineFault.TheVariants.{Letter, Count}
 use Rattle.theory.specs.Model.{Method}
 use Rattle.theory.specs.Rules.{keeps_mark, keeps_ladder}
-use Rattle.theory.proofs.Lists.{and_both, both-and}
 use Rattle.theory.specs.declared.Constraint.{Constraint}
 use Rattle.theory.specs.declared.Constraint.TheVariants.{Before, After, Between}
 use Rattle.reading.specs.declared.faults.DomainFault.TheVariants.{Line, Full, Clash, Mark, Ladder}
@@ -17,9 +18,9 @@ use Rattle.reading.specs.declared.kinds.Kind.{Kind}
 use Rattle.reading.specs.declared.kinds.Kind.TheVariants as kind
 use Rattle.reading.specs.declared.kinds.Section.{Section}
 use Rattle.reading.specs.Tables.{Tables, ActionEntry, TaskEntry, ranks, action_names, task_names, fact_of, task_of, symbol_of, add_fact, add_action, add_task, add_method, add_constraint}
-use Rattle.reading.specs.Lines.{field, new_name, old_name, fact_set, subtask_list, last_method, arity, found}
+use Rattle.reading.specs.Lines.{Check, ◌>>=◌, ◌>>◌, must, field, new_name, old_name, fact_set, subtask_list, last_method, arity, found, position_line}
 use Rattle.reading.specs.Reading.{kind_at, kind_of, group, allowed, field_count, declared, head, line}
-use Rattle.reading.specs.Declares.{Distinct, IsFact, IsAction, IsTask, IsConstraint, IsMethod, Block}
+use Rattle.reading.specs.Declares.{Distinct, IsFact, IsAction, IsTask, IsPosition, IsConstraint, IsMethod, Block, Written}
 use Rattle.reading.proofs.Checks.{step, pass, bound, passed, got, ok_eq}
 use Rattle.reading.proofs.Lookups.{Fresh, index_names, names_index, none_fresh, fresh_none, symbols, none_symbol, symbol_none, distinct_right}
 use Rattle.reading.proofs.Fields.{new-said, said-new, old_said, said_old, number-said, said-number, mark-said, said-mark, set_said, said_set, subtasks-said, said-subtasks}
@@ -36,18 +37,8 @@ code kind.After = 80
 code kind.Between = 75
 code kind.Closing = 69
 
-or_else : (b : ℕ) (k : Kind) (rest : Option Kind) (c : Kind) → cond (eqb b (code k)) (Some k) rest ≡ Some c → (rest ≡ Some c → b ≡ code c) → b ≡ code c
-or_else b k rest c e h = go (eqb b (code k)) (eqb→eq b (code k)) e
-  where
-    go : (x : Bool) → (T x → b ≡ code k) → cond x (Some k) rest ≡ Some c → b ≡ code c
-    go true f e = let q : k ≡ c = cc in f tt ∙ ap code q
-    go false f e = h e
-
 kind_code : (b : ℕ) (c : Kind) → kind_at b ≡ Some c → b ≡ code c
-kind_code b c e =
-    or_else b kind.Fact _ c e (λ e. or_else b kind.Action _ c e (λ e. or_else b kind.Task _ c e (λ e. or_else b kind.Method _ c e (λ e.
-    or_else b kind.Before _ c e (λ e. or_else b kind.After _ c e (λ e. or_else b kind.Between _ c e (λ e. or_else b kind.Closing None c e (λ e.
-    absurd cc))))))))
+kind_code b c e = grind (arith, nat_tests)
 
 letter_of : (f : Bytes) (c : Kind) → kind_of f ≡ Some c → f ≡ code c ∷ []
 letter_of [] c e = absurd cc
@@ -73,63 +64,27 @@ pub record Lined (s : Section) (t : Tables) (l : Bytes) (c : Kind) (v : Tables) 
   pub said : declared c t (fields l) ≡ Ok v
 
 pub line_of : (s : Section) (t : Tables) (l : Bytes) (c : Kind) (v : Tables) → Lined s t l c v → line s t l ≡ Ok (group c, v)
-line_of s t l c v d =
-    let b = both-and (eqb (length (fields l)) (field_count c)) (leb (length l) 255) (subst (λ (k : ℕ). T (eqb (length (fields l)) k)) d.count (eqb_refl (length (fields l)))) (le→leb _ _ d.short) in
-    step _ (step _ (ap (λ (f : Bytes). found (kind_of f) (Line Letter)) d.letter ∙ ap (λ (o : Option Kind). found o (Line Letter)) (of_letter c))
-    (pass (Line Letter) (is_true _ d.here) (pass (Line (Count (length (fields l)))) (is_true _ b) refl)))
-    (step (λ v. Ok (group c, v)) d.said refl)
+line_of s t l c v d = grind (arith, nat_tests, d.here, d.count, d.short, d.said, ap kind_of d.letter, of_letter c)
 
 pub line_inv : (s : Section) (t : Tables) (l : Bytes) (r : Section × Tables) → line s t l ≡ Ok r → (c : Kind) × (group c ≡ r.0) × Lined s t l c r.1
 line_inv s t l r e =
     let c = bound (head s l) _ r e in
-    let a = bound (found (kind_of (at (fields l) 1)) (Line Letter)) _ c.0 c.1 in
-    let b = passed (allowed s a.0) (Line Letter) _ c.0 a.2 in
-    let d = passed (eqb (length (fields l)) (field_count a.0) && leb (length l) 255) (Line (Count (length (fields l)))) (Ok a.0) c.0 b.1 in
-    let k = and_both (eqb (length (fields l)) (field_count a.0)) (leb (length l) 255) d.0 in
-    let q : a.0 ≡ c.0 = ok_eq d.1 in
     let u = bound (declared c.0 t (fields l)) (λ v. Ok (group c.0, v)) r c.2 in
-    let z : ◌≡◌ {A = Section × Tables} (group c.0, u.0) r = ok_eq u.2 in (
+    let z : ◌≡◌ {A = Section × Tables} (group c.0, u.0) r = ok_eq u.2 in
+    let h = heads (kind_of (at (fields l) 1)) (allowed s) field_count (length (fields l)) (length l) c.0 c.1 in (
       c.0,
       ap (λ (r : Section × Tables). r.0) z,
-      record {
-        letter = letter_of _ c.0 (got _ _ _ a.1 ∙ ap Some q);
-        here = subst (λ (c : Kind). T (allowed s c)) q b.0;
-        count = eqb→eq _ _ k.0 ∙ ap field_count q;
-        short = leb→le _ _ k.1;
-        said = u.1 ∙ ap Ok (ap (λ (r : Section × Tables). r.1) z);
-      },
+      record { letter = letter_of _ c.0 h.0; here = h.1; count = h.2; short = h.3; said = u.1 ∙ ap Ok (ap (λ (r : Section × Tables). r.1) z) },
     )
+  where
+    heads : (o : Option Kind) (f : Kind → Bool) (g : Kind → ℕ) (n m : ℕ) (c : Kind)
+        → ◌≡◌ {A = Check Kind} (found o (Line Letter) >>= λ k. must (f k) (Line Letter) >> (must (eqb n (g k) && leb m 255) (Line (Count n)) >> Ok k)) (Ok c)
+        → (o ≡ Some c) × T (f c) × (n ≡ g c) × (m ≤ 255)
+    heads o f g n m c e = grind (arith, nat_tests)
 
--- a list with so many elements, one by one
-gather : (ℕ → Bytes) → ℕ → List Bytes
-gather f zero = []
-gather f (suc n) = f 0 ∷ gather (λ i. f (suc i)) n
-
-gathered : (fs : List Bytes) → fs ≡ gather (λ i. get_or fs i []) (length fs)
-unfolding gather
-gathered [] = refl
-gathered (x ∷ xs) = ap (λ (z : List Bytes). x ∷ z) (gathered xs)
-
-module _ (fs : List Bytes) where
-  cut1 : (x : Bytes) → length fs ≡ 1 → at fs 1 ≡ x → fs ≡ x ∷ []
-  unfolding gather
-  cut1 x e q = gathered fs ∙ ap (gather (λ i. get_or fs i [])) e ∙ ap (λ (z : Bytes). z ∷ []) q
-
-  cut2 : (x : Bytes) → length fs ≡ 2 → at fs 1 ≡ x → fs ≡ x ∷ at fs 2 ∷ []
-  unfolding gather
-  cut2 x e q = gathered fs ∙ ap (gather (λ i. get_or fs i [])) e ∙ ap (λ (z : Bytes). z ∷ at fs 2 ∷ []) q
-
-  cut3 : (x : Bytes) → length fs ≡ 3 → at fs 1 ≡ x → fs ≡ x ∷ at fs 2 ∷ at fs 3 ∷ []
-  unfolding gather
-  cut3 x e q = gathered fs ∙ ap (gather (λ i. get_or fs i [])) e ∙ ap (λ (z : Bytes). z ∷ at fs 2 ∷ at fs 3 ∷ []) q
-
-  cut4 : (x : Bytes) → length fs ≡ 4 → at fs 1 ≡ x → fs ≡ x ∷ at fs 2 ∷ at fs 3 ∷ at fs 4 ∷ []
-  unfolding gather
-  cut4 x e q = gathered fs ∙ ap (gather (λ i. get_or fs i [])) e ∙ ap (λ (z : Bytes). z ∷ at fs 2 ∷ at fs 3 ∷ at fs 4 ∷ []) q
-
-  cut5 : (x : Bytes) → length fs ≡ 5 → at fs 1 ≡ x → fs ≡ x ∷ at fs 2 ∷ at fs 3 ∷ at fs 4 ∷ at fs 5 ∷ []
-  unfolding gather
-  cut5 x e q = gathered fs ∙ ap (gather (λ i. get_or fs i [])) e ∙ ap (λ (z : Bytes). z ∷ at fs 2 ∷ at fs 3 ∷ at fs 4 ∷ at fs 5 ∷ []) q
+-- a list of so many fields, one by one
+row : (n : ℕ) (c : Kind) (fs : List Bytes) → length fs ≡ suc n → at fs 1 ≡ code c ∷ [] → fs ≡ (code c ∷ []) ∷ map (λ i. get_or fs i []) (range_with_len 1 n)
+row n c fs e q = fill_by_all (λ i. get_or fs i []) fs (suc n) [] e (λ k h. refl) ∙ ap (λ (f : Bytes). f ∷ map (λ i. get_or fs i []) (range_with_len 1 n)) q
 
 abbrev pub alone : Bytes → Block
 alone l = record { line = l; below = [] }
@@ -141,7 +96,7 @@ module _ (s : Section) (t : Tables) (l : Bytes) (v : Tables) where
       let r = passed (ltb (length t.facts) 64) Full _ v n.2 in
       let k = new-said (fields l) 2 (fact_of t) n.0 n.1 in (
         at (fields l) 2,
-        ((cut2 (fields l) (codes "F") d.count d.letter, d.short), k.1),
+        ((row 1 kind.Fact (fields l) d.count d.letter, d.short), k.1),
         none_fresh _ t.facts k.2,
         ltb→lt _ _ r.0,
         ap (add_fact t) k.0 ∙ ok_eq r.1,
@@ -161,7 +116,7 @@ module _ (s : Section) (t : Tables) (l : Bytes) (v : Tables) where
           needs = at (fields l) 3;
           adds = at (fields l) 4;
           deletes = at (fields l) 5;
-          written = (cut5 (fields l) (codes "A") d.count d.letter, d.short);
+          written = (row 4 kind.Action (fields l) d.count d.letter, d.short);
           name = k.1;
           needed = set_said t (fields l) 3 p.0 p.1;
           added = set_said t (fields l) 4 a.0 a.1;
@@ -184,7 +139,7 @@ module _ (s : Section) (t : Tables) (l : Bytes) (v : Tables) where
         record {
           level = at (fields l) 3;
           mark = at (fields l) 4;
-          written = (cut4 (fields l) (codes "T") d.count d.letter, d.short);
+          written = (row 3 kind.Task (fields l) d.count d.letter, d.short);
           name = k.1;
           levelled = number-said (fields l) 3 0 7 p.0 p.1;
           marked = mark-said (fields l) 4 m.0 m.1;
@@ -212,7 +167,7 @@ module _ (s : Section) (t : Tables) (l : Bytes) (v : Tables) where
           price = at (fields l) 3;
           grade = at (fields l) 4;
           subtasks = at (fields l) 5;
-          written = (cut5 (fields l) (codes "M") d.count d.letter, d.short);
+          written = (row 4 kind.Method (fields l) d.count d.letter, d.short);
           form = k.0;
           owned = index_names _ (task_names t) o.0 k.1;
           priced = number-said (fields l) 3 0 1000 p.0 p.1;
@@ -234,43 +189,31 @@ module _ (s : Section) (t : Tables) (l : Bytes) (v : Tables) where
   abbrev pub Constrains : Type 0
   Constrains = (x : Constraint) × IsConstraint t (arity t) l x × (length (last_method t).constraints < 4) × (add_constraint t x ≡ v)
 
-  pub before_said : Lined s t l kind.Before v → Constrains
-  before_said d =
-      let j = bound (field (number_in (fields l) 2 0 (arity t))) _ v d.said in
+  position_said : (c : ℕ → ℕ → Constraint) (letter : Bytes) → ((j f : ℕ) → IsPosition t (arity t) letter l j f → IsConstraint t (arity t) l (c j f))
+      → Written l (letter ∷ at (fields l) 2 ∷ at (fields l) 3 ∷ []) → position_line c t (fields l) ≡ Ok v → Constrains
+  position_said c letter is w e =
+      let j = bound (field (number_in (fields l) 2 0 (arity t))) _ v e in
       let f = bound (old_name (fact_of t) (fields l) 3) _ v j.2 in
       let r = passed (ltb (length (last_method t).constraints) 4) Full _ v f.2 in
       let k = old_said (fields l) 3 (fact_of t) f.0 f.1 in (
-        Before j.0 f.0,
-        record {
+        c j.0 f.0,
+        is j.0 f.0 (record {
           position = at (fields l) 2;
           fact = at (fields l) 3;
-          written = (cut3 (fields l) (codes "B") d.count d.letter, d.short);
+          written = w;
           placed = number-said (fields l) 2 0 (arity t) j.0 j.1;
           form = k.0;
           named = index_names _ t.facts f.0 k.1;
-        },
+        }),
         ltb→lt _ _ r.0,
         ok_eq r.1,
       )
 
+  pub before_said : Lined s t l kind.Before v → Constrains
+  before_said d = position_said Before (codes "B") (λ j f i. i) (row 2 kind.Before (fields l) d.count d.letter, d.short) d.said
+
   pub after_said : Lined s t l kind.After v → Constrains
-  after_said d =
-      let j = bound (field (number_in (fields l) 2 0 (arity t))) _ v d.said in
-      let f = bound (old_name (fact_of t) (fields l) 3) _ v j.2 in
-      let r = passed (ltb (length (last_method t).constraints) 4) Full _ v f.2 in
-      let k = old_said (fields l) 3 (fact_of t) f.0 f.1 in (
-        After j.0 f.0,
-        record {
-          position = at (fields l) 2;
-          fact = at (fields l) 3;
-          written = (cut3 (fields l) (codes "P") d.count d.letter, d.short);
-          placed = number-said (fields l) 2 0 (arity t) j.0 j.1;
-          form = k.0;
-          named = index_names _ t.facts f.0 k.1;
-        },
-        ltb→lt _ _ r.0,
-        ok_eq r.1,
-      )
+  after_said d = position_said After (codes "P") (λ j f i. i) (row 2 kind.After (fields l) d.count d.letter, d.short) d.said
 
   pub between_said : Lined s t l kind.Between v → Constrains
   between_said d =
@@ -284,7 +227,7 @@ module _ (s : Section) (t : Tables) (l : Bytes) (v : Tables) where
           from = at (fields l) 2;
           fact = at (fields l) 3;
           to = at (fields l) 4;
-          written = (cut4 (fields l) (codes "K") d.count d.letter, d.short);
+          written = (row 3 kind.Between (fields l) d.count d.letter, d.short);
           first = number-said (fields l) 2 1 (arity t) i.0 i.1;
           form = k.0;
           named = index_names _ t.facts f.0 k.1;
@@ -295,7 +238,7 @@ module _ (s : Section) (t : Tables) (l : Bytes) (v : Tables) where
       )
 
   pub closing_said : Lined s t l kind.Closing v → (l ≡ codes "E") × (t ≡ v)
-  closing_said d = (sym (parted_cut tab l).joins ∙ ap (joined tab) (cut1 (fields l) (codes "E") d.count d.letter), ok_eq d.said)
+  closing_said d = (sym (parted_cut tab l).joins ∙ ap (joined tab) (row 0 kind.Closing (fields l) d.count d.letter), ok_eq d.said)
 
 -- a method with no constraints
 abbrev pub bare : Method → Method
@@ -309,101 +252,52 @@ kind_for (Between i f j) = kind.Between
 
 -- a line that says this, where it may, is accepted
 module _ (s : Section) (t : Tables) (l : Bytes) where
-  roomy : {n most : ℕ} → n < most → ltb n most ≡ true
-  roomy h = is_true _ (lt→ltb _ _ h)
+  lined : (c : Kind) (fs : List Bytes) (v : Tables) → at fs 1 ≡ code c ∷ [] → length fs ≡ field_count c → T (allowed s c) → Written l fs → declared c t fs ≡ Ok v → Lined s t l c v
+  lined c fs v e n h w d =
+      record { letter = ap (λ (fs : List Bytes). at fs 1) w.0 ∙ e; here = h; count = ap length w.0 ∙ n; short = w.1; said = ap (declared c t) w.0 ∙ d }
 
   pub said_closing : T (allowed s kind.Closing) → Lined s t (codes "E") kind.Closing t
   said_closing h = record { letter = refl; here = h; count = refl; short = omega arith; said = refl }
 
   pub said-fact : (n : Bytes) → T (allowed s kind.Fact) → IsFact l n → Fresh n t.facts → length t.facts < 64 → Lined s t l kind.Fact (add_fact t n)
-  said-fact n h i f r =
-      let w = i.0.0 in
-      record {
-        letter = ap (λ (fs : List Bytes). at fs 1) w;
-        here = h;
-        count = ap length w;
-        short = i.0.1;
-        said = ap (declared kind.Fact t) w ∙ step _ (said-new (codes "F" ∷ n ∷ []) 2 (fact_of t) i.1 (fresh_none n t.facts f)) (pass Full (roomy r) refl);
-      }
+  said-fact n h i f r = lined kind.Fact (codes "F" ∷ n ∷ []) _ refl refl h i.0 (grind (arith, nat_tests, i.1, fresh_none n t.facts f, r))
 
   pub said_action : (a : ActionEntry) → T (allowed s kind.Action) → IsAction t l a → Distinct t.facts → Fresh a.name (symbols t) → length t.actions < 64 → Lined s t l kind.Action (add_action t a)
   said_action a h i d f r =
-      let w = i.written.0 in
       let fs : List Bytes = codes "A" ∷ a.name ∷ i.needs ∷ i.adds ∷ i.deletes ∷ [] in
-      record {
-        letter = ap (λ (fs : List Bytes). at fs 1) w;
-        here = h;
-        count = ap length w;
-        short = i.written.1;
-        said = ap (declared kind.Action t) w
-            ∙ step _ (said-new fs 2 (symbol_of t) i.name (symbol_none t a.name f))
-            (step _ (said_set t fs 3 a.needs d i.needed) (step _ (said_set t fs 4 a.adds d i.added) (step _ (said_set t fs 5 a.deletes d i.deleted)
-            (pass Full (roomy r) (pass Clash (eq-eqb _ _ i.apart) refl)))));
-      }
+      lined kind.Action fs _ refl refl h i.written
+      (step _ (said-new fs 2 (symbol_of t) i.name (symbol_none t a.name f))
+      (step _ (said_set t fs 3 a.needs d i.needed) (step _ (said_set t fs 4 a.adds d i.added) (step _ (said_set t fs 5 a.deletes d i.deleted)
+      (pass Full (lt-ltb _ _ r) (pass Clash (eq-eqb _ _ i.apart) refl))))))
 
   pub said_task : (e : TaskEntry) → T (allowed s kind.Task) → IsTask l e → Fresh e.name (symbols t) → length t.tasks < 48 → Lined s t l kind.Task (add_task t e)
   said_task e h i f r =
-      let w = i.written.0 in
       let fs : List Bytes = codes "T" ∷ e.name ∷ i.level ∷ i.mark ∷ [] in
-      record {
-        letter = ap (λ (fs : List Bytes). at fs 1) w;
-        here = h;
-        count = ap length w;
-        short = i.written.1;
-        said = ap (declared kind.Task t) w
-            ∙ step _ (said-new fs 2 (symbol_of t) i.name (symbol_none t e.name f))
-            (step _ (said-number fs 3 0 7 e.level i.levelled) (step _ (said-mark fs 4 e.vanish i.marked) (pass Full (roomy r) refl)));
-      }
+      lined kind.Task fs _ refl refl h i.written
+      (step _ (said-new fs 2 (symbol_of t) i.name (symbol_none t e.name f))
+      (step _ (said-number fs 3 0 7 e.level i.levelled) (step _ (said-mark fs 4 e.vanish i.marked) (pass Full (lt-ltb _ _ r) refl))))
 
   pub said_method : (m : Method) → T (allowed s kind.Method) → IsMethod t (alone l) m → Distinct (symbols t) → length t.methods < 128 → Lined s t l kind.Method (add_method t (bare m))
   said_method m h i d r =
-      let w = i.written.0 in
       let fs : List Bytes = codes "M" ∷ i.owner ∷ i.price ∷ i.grade ∷ i.subtasks ∷ [] in
       let rules = rules_decided (ranks t) m.owner m.subtasks in
-      record {
-        letter = ap (λ (fs : List Bytes). at fs 1) w;
-        here = h;
-        count = ap length w;
-        short = i.written.1;
-        said = ap (declared kind.Method t) w
-            ∙ step _ (said_old fs 2 (task_of t) m.owner i.form (names_index i.owner (task_names t) m.owner (distinct_right (action_names t) (task_names t) d) i.owned))
-            (step _ (said-number fs 3 0 1000 m.price i.priced) (step _ (said-number fs 4 0 9 m.grade i.graded)
-            (step _ (said-subtasks t fs 5 m.subtasks d i.names i.few i.parts)
-            (pass Full (roomy r) (pass Mark (is_true _ (rules.0.1 i.mark)) (pass Ladder (is_true _ (rules.1.1 i.ladder)) refl))))));
-      }
+      lined kind.Method fs _ refl refl h i.written
+      (step _ (said_old fs 2 (task_of t) m.owner i.form (names_index i.owner (task_names t) m.owner (distinct_right (action_names t) (task_names t) d) i.owned))
+      (step _ (said-number fs 3 0 1000 m.price i.priced) (step _ (said-number fs 4 0 9 m.grade i.graded)
+      (step _ (said-subtasks t fs 5 m.subtasks d i.names i.few i.parts)
+      (pass Full (lt-ltb _ _ r) (pass Mark (is_true _ (rules.0.1 i.mark)) (pass Ladder (is_true _ (rules.1.1 i.ladder)) refl)))))))
+
+  said-position : (c : ℕ → ℕ → Constraint) (letter : Bytes) (j f : ℕ) (i : IsPosition t (arity t) letter l j f) → Distinct t.facts → length (last_method t).constraints < 4
+      → position_line c t (letter ∷ i.position ∷ i.fact ∷ []) ≡ Ok (add_constraint t (c j f))
+  said-position c letter j f i d r =
+      let fs : List Bytes = letter ∷ i.position ∷ i.fact ∷ [] in
+      step _ (said-number fs 2 0 (arity t) j i.placed) (step _ (said_old fs 3 (fact_of t) f i.form (names_index i.fact t.facts f d i.named)) (pass Full (lt-ltb _ _ r) refl))
 
   pub said_constraint : (x : Constraint) → T (allowed s (kind_for x)) → IsConstraint t (arity t) l x → Distinct t.facts → length (last_method t).constraints < 4 → Lined s t l (kind_for x) (add_constraint t x)
-  said_constraint (Before j f) h i d r =
-      let w = i.written.0 in
-      let fs : List Bytes = codes "B" ∷ i.position ∷ i.fact ∷ [] in
-      record {
-        letter = ap (λ (fs : List Bytes). at fs 1) w;
-        here = h;
-        count = ap length w;
-        short = i.written.1;
-        said = ap (declared kind.Before t) w
-            ∙ step _ (said-number fs 2 0 (arity t) j i.placed) (step _ (said_old fs 3 (fact_of t) f i.form (names_index i.fact t.facts f d i.named)) (pass Full (roomy r) refl));
-      }
-  said_constraint (After j f) h i d r =
-      let w = i.written.0 in
-      let fs : List Bytes = codes "P" ∷ i.position ∷ i.fact ∷ [] in
-      record {
-        letter = ap (λ (fs : List Bytes). at fs 1) w;
-        here = h;
-        count = ap length w;
-        short = i.written.1;
-        said = ap (declared kind.After t) w
-            ∙ step _ (said-number fs 2 0 (arity t) j i.placed) (step _ (said_old fs 3 (fact_of t) f i.form (names_index i.fact t.facts f d i.named)) (pass Full (roomy r) refl));
-      }
+  said_constraint (Before j f) h i d r = lined kind.Before _ _ refl refl h i.written (said-position Before (codes "B") j f i d r)
+  said_constraint (After j f) h i d r = lined kind.After _ _ refl refl h i.written (said-position After (codes "P") j f i d r)
   said_constraint (Between b f j) h i d r =
-      let w = i.written.0 in
       let fs : List Bytes = codes "K" ∷ i.from ∷ i.fact ∷ i.to ∷ [] in
-      record {
-        letter = ap (λ (fs : List Bytes). at fs 1) w;
-        here = h;
-        count = ap length w;
-        short = i.written.1;
-        said = ap (declared kind.Between t) w
-            ∙ step _ (said-number fs 2 1 (arity t) b i.first) (step _ (said_old fs 3 (fact_of t) f i.form (names_index i.fact t.facts f d i.named))
-            (step _ (said-number fs 4 (suc b) (arity t) j i.second) (pass Full (roomy r) refl)));
-      }
+      lined kind.Between fs _ refl refl h i.written
+      (step _ (said-number fs 2 1 (arity t) b i.first) (step _ (said_old fs 3 (fact_of t) f i.form (names_index i.fact t.facts f d i.named))
+      (step _ (said-number fs 4 (suc b) (arity t) j i.second) (pass Full (lt-ltb _ _ r) refl))))
