@@ -1,6 +1,7 @@
 -- the parts of an accepted text: fact lines, action lines, task lines, methods with their constraints
-use Rattle.std.proofs.Common.{◌≡◌, ℕ, ◌+◌, ◌<◌, ◌≤◌, T, List, [], ◌∷◌, ◌++◌, map, length, codes, sym, refl, ap, ◌∙◌, subst, append_assoc, append-nil, arith, length-append}
+use Rattle.std.proofs.Common.{◌≡◌, ℕ, ◌+◌, ◌<◌, ◌≤◌, T, ◌⊎◌, inl, inr, List, [], ◌∷◌, ◌++◌, map, length, codes, sym, refl, ap, ◌∙◌, subst, append_assoc, append-nil, arith, length-append}
 use mathlib.Core.List.{map-append}
+use Rattle.std.proofs.lemmas.Bool.Decides.{nat_tests}
 use Rattle.fields.specs.Text.{Bytes}
 use Rattle.theory.specs.Model.{Method, no_method}
 use Rattle.theory.specs.declared.Constraint.{Constraint}
@@ -13,24 +14,63 @@ use Rattle.reading.specs.Tables.{Tables, ActionEntry, TaskEntry, constrained, on
 use Rattle.reading.specs.Lines.{last_method}
 use Rattle.reading.specs.Reading.{group, allowed}
 use Rattle.reading.specs.Declares.{Each, Distinct, IsFact, IsFactSet, IsAction, IsTask, IsConstraint, IsMethod, Block, block_lines, Declares}
-use Rattle.reading.proofs.Alls.{each_map}
+use Rattle.reading.proofs.Alls.{each_length, each_map}
 use Rattle.reading.proofs.Lookups.{distinct_more, symbols}
-use Rattle.reading.proofs.Said.{Lined, alone, Constrains, fact-said, action_said, task_said, method_said, before_said, after_said, between_said, closing_said}
+use Rattle.reading.proofs.Said.{Lined, alone, bare, Constrains, fact-said, action_said, task_said, method_said, before_said, after_said, between_said, closing_said}
 use Rattle.reading.proofs.Ends.{Ends, ended}
 
 abbrev pub tables : List Bytes → List ActionEntry → List TaskEntry → List Method → Tables
 tables F A K M = record { facts = F; actions = A; tasks = K; methods = M }
 
--- a method with more constraints
-abbrev pub filled : Method → List Constraint → Method
-filled m cs = record { owner = m.owner; price = m.price; grade = m.grade; subtasks = m.subtasks; constraints = m.constraints ++ cs }
+-- a method with these constraints
+abbrev pub with : Method → List Constraint → Method
+with m cs = record { owner = m.owner; price = m.price; grade = m.grade; subtasks = m.subtasks; constraints = cs }
 
-pub filled_none : (m : Method) → filled m [] ≡ m
-filled_none m = ap (λ (cs : List Constraint). record { owner = m.owner; price = m.price; grade = m.grade; subtasks = m.subtasks; constraints = cs }) (append-nil m.constraints)
+-- some entries, and then more of them, from the first of these lines; what the other lines are, Then says
+record Part {A : Type 0} (R : Bytes → A → Type 0) (Then : List A → List Bytes → Type 0) (xs : List A) (ls : List Bytes) : Type 0 where
+  lines : List Bytes
+  new : List A
+  rest : List Bytes
+  order : ls ≡ lines ++ rest
+  each : Each R lines new
+  then : Then (xs ++ new) rest
 
-pub filled_more : (m : Method) (x : Constraint) (cs : List Constraint) → filled (constrained x m) cs ≡ filled m (x ∷ cs)
-filled_more m x cs =
-    ap (λ (cs : List Constraint). record { owner = m.owner; price = m.price; grade = m.grade; subtasks = m.subtasks; constraints = cs }) (append_assoc m.constraints (x ∷ []) cs)
+module _ {A : Type 0} (R : Bytes → A → Type 0) (Then : List A → List Bytes → Type 0) (xs : List A) where
+  none_more : (ls : List Bytes) → Then xs ls → Part R Then xs ls
+  none_more ls h = record { lines = []; new = []; rest = ls; order = refl; each = tt; then = subst (λ (xs : List A). Then xs ls) (sym (append-nil xs)) h }
+
+  one_more : (l : Bytes) (x : A) (ls : List Bytes) → R l x → Part R Then (xs ++ x ∷ []) ls → Part R Then xs (l ∷ ls)
+  one_more l x ls r p =
+      record {
+        lines = l ∷ p.lines;
+        new = x ∷ p.new;
+        rest = p.rest;
+        order = ap (λ (ls : List Bytes). l ∷ ls) p.order;
+        each = (r, p.each);
+        then = subst (λ (xs : List A). Then xs p.rest) (append_assoc xs (x ∷ []) p.new) p.then;
+      }
+
+-- The lines of kind k are the entries of one table, which fits as far as it is filled; a line of a later kind ends them.
+module _ {A : Type 0} (R : Bytes → A → Type 0) (Then : List A → List Bytes → Type 0) (filled : List A → Tables) (Fits : List A → Type 0) (k : Kind) (Later : Kind → Type 0) (u : Tables)
+    (unclosed : group k ≡ Closed → ⊥) (sorts : (c : Kind) → T (allowed (group k) c) → (c ≡ k) ⊎ Later c)
+    (said : (p : Section) (xs : List A) (l : Bytes) (v : Tables) → Fits xs → Lined p (filled xs) l k v → (x : A) × R l x × Fits (xs ++ x ∷ []) × (filled (xs ++ x ∷ []) ≡ v))
+    (ends : (p : Section) (xs : List A) (c : Kind) (l : Bytes) (v : Tables) (ls : List Bytes) → Fits xs → Later c → Lined p (filled xs) l c v → Ends (group c) v ls u → Then xs (l ∷ ls)) where
+  part_line : (p : Section) (xs : List A) (c : Kind) (l : Bytes) (v : Tables) (ls : List Bytes) → ((xs : List A) → Fits xs → Ends (group k) (filled xs) ls u → Part R Then xs ls)
+      → Fits xs → T (allowed (group k) c) → Lined p (filled xs) l c v → Ends (group c) v ls u → Part R Then xs (l ∷ ls)
+  part_line p xs c l v ls ih f a d e = elim (sorts c a) [
+      inl q ↦
+      let x = said p xs l v f (subst (λ (c : Kind). Lined p (filled xs) l c v) q d) in
+      let g = subst (λ (c : Kind). Ends (group c) (filled (xs ++ x.0 ∷ [])) ls u) q (subst (λ (t : Tables). Ends (group c) t ls u) (sym x.3) e) in
+      one_more R Then xs l x.0 ls x.1 (ih (xs ++ x.0 ∷ []) x.2 g)
+    | inr b ↦ none_more R Then xs (l ∷ ls) (ends p xs c l v ls f b d e)
+  ]
+
+  part : (ls : List Bytes) (xs : List A) → Fits xs → Ends (group k) (filled xs) ls u → Part R Then xs ls
+  part [] xs f e = absurd (unclosed e.0)
+  part (l ∷ ls) xs f (c, v, d, e) = part_line (group k) xs c l v ls (part ls) f d.here d e
+
+  first_part : (p : Section) (xs : List A) (c : Kind) (l : Bytes) (v : Tables) (ls : List Bytes) → Fits xs → T (allowed (group k) c) → Lined p (filled xs) l c v → Ends (group c) v ls u → Part R Then xs (l ∷ ls)
+  first_part p xs c l v ls f a d e = part_line p xs c l v ls (part ls) f a d e
 
 module _ {A : Type 0} where
   pub last_of : (d : A) (xs : List A) (x : A) → last_or d (xs ++ x ∷ []) ≡ x
@@ -70,8 +110,7 @@ module _ (F : List Bytes) (A : List ActionEntry) (K : List TaskEntry) where
 
   -- a method's line, and other constraint lines below it
   pub method_moved : (M N : List Method) (b : Block) (m : Method) (below : List Bytes) (cs : List Constraint) → IsMethod (tables F A K M) b m
-      → Each (IsConstraint (tables F A K N) (length m.subtasks)) below cs → length below ≤ 4
-      → IsMethod (tables F A K N) (record { line = b.line; below = below }) (record { owner = m.owner; price = m.price; grade = m.grade; subtasks = m.subtasks; constraints = cs })
+      → Each (IsConstraint (tables F A K N) (length m.subtasks)) below cs → length below ≤ 4 → IsMethod (tables F A K N) (record { line = b.line; below = below }) (with m cs)
   method_moved M N b m below cs h e r =
       record {
         owner = h.owner;
@@ -101,15 +140,12 @@ module _ (F : List Bytes) (A : List ActionEntry) (K : List TaskEntry) where
     pub each : Each (IsMethod (tables F A K [])) blocks new
     pub few : length (ms ++ new) ≤ 128
 
-  -- first come constraints of the last method m
-  pub record Open (ms : List Method) (m : Method) (ls : List Bytes) (u : Tables) : Type 0 where
-    pub below : List Bytes
-    pub new : List Constraint
-    pub rest : List Bytes
-    pub order : ls ≡ below ++ rest
-    pub each : Each (IsConstraint (tables F A K []) (length m.subtasks)) below new
-    pub room : length m.constraints + length below ≤ 4
-    pub then : Blocks (ms ++ filled m new ∷ []) rest u
+  -- first come more constraints of the last method m, which has cs
+  abbrev Open : List Method → Method → Tables → List Constraint → List Bytes → Type 0
+  Open ms m u = Part (IsConstraint (tables F A K []) (length m.subtasks)) (λ cs ls. (length cs ≤ 4) × Blocks (ms ++ with m cs ∷ []) ls u)
+
+  abbrev Opens : List Bytes → Type 0
+  Opens ls = (ms : List Method) (m : Method) (cs : List Constraint) (u : Tables) → length cs ≤ 4 → length (ms ++ with m cs ∷ []) ≤ 128 → Ends Methods (tables F A K (ms ++ with m cs ∷ [])) ls u → Open ms m u cs ls
 
   closing_blocks : (s : Section) (ms : List Method) (l : Bytes) (v : Tables) (ls : List Bytes) (u : Tables) → length ms ≤ 128 → Lined s (tables F A K ms) l kind.Closing v → Ends Closed v ls u → Blocks ms (l ∷ ls) u
   closing_blocks s ms l v ls u h d e =
@@ -124,76 +160,49 @@ module _ (F : List Bytes) (A : List ActionEntry) (K : List TaskEntry) where
         few = rw append-nil h;
       }
 
-  none_below : (ms : List Method) (m : Method) (ls : List Bytes) (u : Tables) → length m.constraints ≤ 4 → Blocks (ms ++ m ∷ []) ls u → Open ms m ls u
-  none_below ms m ls u h b =
-      record { below = []; new = []; rest = ls; order = refl; each = tt; room = omega arith; then = subst (λ (x : Method). Blocks (ms ++ x ∷ []) ls u) (sym (filled_none m)) b }
-
-  one_below : (ms : List Method) (m : Method) (l : Bytes) (x : Constraint) (ls : List Bytes) (u : Tables) → IsConstraint (tables F A K []) (length m.subtasks) l x
-      → Open ms (constrained x m) ls u → Open ms m (l ∷ ls) u
-  one_below ms m l x ls u h o =
-      let k = o.room in
-      let e = length-append m.constraints (x ∷ []) in
-      record {
-        below = l ∷ o.below;
-        new = x ∷ o.new;
-        rest = o.rest;
-        order = ap (λ (ls : List Bytes). l ∷ ls) o.order;
-        each = (h, o.each);
-        room = omega arith;
-        then = subst (λ (x : Method). Blocks (ms ++ x ∷ []) o.rest u) (filled_more m x o.new) o.then;
-      }
-
-  abbrev Opens : List Bytes → Type 0
-  Opens ls = (ms : List Method) (m : Method) (u : Tables) → length m.constraints ≤ 4 → length (ms ++ m ∷ []) ≤ 128 → Ends Methods (tables F A K (ms ++ m ∷ [])) ls u → Open ms m ls u
-
   method_blocks : (s : Section) (ms : List Method) (l : Bytes) (v : Tables) (ls : List Bytes) (u : Tables) → Opens ls → Lined s (tables F A K ms) l kind.Method v → Ends Methods v ls u → Blocks ms (l ∷ ls) u
   method_blocks s ms l v ls u ih d e =
       let x = method_said s (tables F A K ms) l v d in
       let m = x.0 in
-      let z = x.4 in
-      let y = ap length z in
-      let i = length-append ms (m ∷ []) in
-      let r = x.2 in
-      let o = ih ms m u (omega arith) (omega arith) (subst (λ (t : Tables). Ends Methods t ls u) (sym x.3) e) in
-      let b = o.then in
-      let k = o.room in
+      let o = ih ms m [] u (omega arith) (omega (arith, x.2, length-append ms (bare m ∷ []))) (subst (λ (t : Tables). Ends Methods t ls u) (sym x.3) e) in
+      let b = o.then.1 in
       record {
-        blocks = record { line = l; below = o.below } ∷ b.blocks;
-        new = filled m o.new ∷ b.new;
-        order = ap (λ (ls : List Bytes). l ∷ ls) (o.order ∙ ap (λ (ls : List Bytes). o.below ++ ls) b.order ∙ sym (append_assoc o.below (block_lines b.blocks) (codes "E" ∷ [])));
-        is = ap (tables F A K) (sym (append_assoc ms (filled m o.new ∷ []) b.new)) ∙ b.is;
-        each = (
-          method_moved ms [] (alone l) m o.below (m.constraints ++ o.new) x.1
-              (subst (Each (IsConstraint (tables F A K []) (length m.subtasks)) o.below) (ap (λ (cs : List Constraint). cs ++ o.new) (sym z)) o.each) (omega arith),
-          b.each,
-        );
-        few = subst (λ (xs : List Method). length xs ≤ 128) (append_assoc ms (filled m o.new ∷ []) b.new) b.few;
+        blocks = record { line = l; below = o.lines } ∷ b.blocks;
+        new = with m o.new ∷ b.new;
+        order = ap (λ (ls : List Bytes). l ∷ ls) (o.order ∙ ap (λ (ls : List Bytes). o.lines ++ ls) b.order ∙ sym (append_assoc o.lines (block_lines b.blocks) (codes "E" ∷ [])));
+        is = ap (tables F A K) (sym (append_assoc ms (with m o.new ∷ []) b.new)) ∙ b.is;
+        each = (method_moved ms [] (alone l) m o.lines o.new x.1 o.each (omega (arith, o.then.0, each_length (IsConstraint (tables F A K []) (length m.subtasks)) o.lines o.new o.each)), b.each);
+        few = subst (λ (xs : List Method). length xs ≤ 128) (append_assoc ms (with m o.new ∷ []) b.new) b.few;
       }
 
-  constraint_open : (ls : List Bytes) (ms : List Method) (m : Method) (l : Bytes) (v u : Tables) → Opens ls → length (ms ++ m ∷ []) ≤ 128
-      → Constrains Methods (tables F A K (ms ++ m ∷ [])) l v → Ends Methods v ls u → Open ms m (l ∷ ls) u
-  constraint_open ls ms m l v u ih h c e =
-      let t = tables F A K (ms ++ m ∷ []) in
+  constraint_open : (ls : List Bytes) (ms : List Method) (m : Method) (cs : List Constraint) (l : Bytes) (v u : Tables) → Opens ls → length (ms ++ with m cs ∷ []) ≤ 128
+      → Constrains Methods (tables F A K (ms ++ with m cs ∷ [])) l v → Ends Methods v ls u → Open ms m u cs (l ∷ ls)
+  constraint_open ls ms m cs l v u ih h c e =
+      let t = tables F A K (ms ++ with m cs ∷ []) in
       let x = c.0 in
-      let q : last_method t ≡ m = last_of no_method ms m in
+      let q : last_method t ≡ with m cs = last_of no_method ms (with m cs) in
       let i = subst (λ (n : Method). IsConstraint t (length n.subtasks) l x) q c.1 in
       let r = subst (λ (n : Method). length n.constraints < 4) q c.2 in
-      let y = length-append m.constraints (x ∷ []) in
-      let a = length-append ms (m ∷ []) in
-      let b = length-append ms (constrained x m ∷ []) in
-      one_below ms m l x ls u (constraint_moved (ms ++ m ∷ []) [] (length m.subtasks) l x i)
-      (ih ms (constrained x m) u (omega arith) (omega arith) (subst (λ (t : Tables). Ends Methods t ls u) (sym c.3 ∙ ap (tables F A K) (on_last_lem (constrained x) ms m)) e))
+      let a = length-append ms (with m cs ∷ []) in
+      let b = length-append ms (with m (cs ++ x ∷ []) ∷ []) in
+      one_more _ _ cs l x ls (constraint_moved (ms ++ with m cs ∷ []) [] (length m.subtasks) l x i)
+      (ih ms m (cs ++ x ∷ []) u (omega (arith, r, length-append cs (x ∷ []))) (omega arith) (subst (λ (t : Tables). Ends Methods t ls u) (sym c.3 ∙ ap (tables F A K) (on_last_lem (constrained x) ms (with m cs))) e))
 
   opened : (ls : List Bytes) → Opens ls
-  opened [] ms m u h k e = absurd (cc e.0)
-  opened (l ∷ ls) ms m u h k (kind.Fact, v, d, e) = elim d.here [ ]
-  opened (l ∷ ls) ms m u h k (kind.Action, v, d, e) = elim d.here [ ]
-  opened (l ∷ ls) ms m u h k (kind.Task, v, d, e) = elim d.here [ ]
-  opened (l ∷ ls) ms m u h k (kind.Method, v, d, e) = none_below ms m (l ∷ ls) u h (method_blocks Methods (ms ++ m ∷ []) l v ls u (opened ls) d e)
-  opened (l ∷ ls) ms m u h k (kind.Before, v, d, e) = constraint_open ls ms m l v u (opened ls) k (before_said Methods (tables F A K (ms ++ m ∷ [])) l v d) e
-  opened (l ∷ ls) ms m u h k (kind.After, v, d, e) = constraint_open ls ms m l v u (opened ls) k (after_said Methods (tables F A K (ms ++ m ∷ [])) l v d) e
-  opened (l ∷ ls) ms m u h k (kind.Between, v, d, e) = constraint_open ls ms m l v u (opened ls) k (between_said Methods (tables F A K (ms ++ m ∷ [])) l v d) e
-  opened (l ∷ ls) ms m u h k (kind.Closing, v, d, e) = none_below ms m (l ∷ ls) u h (closing_blocks Methods (ms ++ m ∷ []) l v ls u k d e)
+  opened [] ms m cs u h k e = absurd (cc e.0)
+  opened (l ∷ ls) ms m cs u h k (kind.Fact, v, d, e) = elim d.here [ ]
+  opened (l ∷ ls) ms m cs u h k (kind.Action, v, d, e) = elim d.here [ ]
+  opened (l ∷ ls) ms m cs u h k (kind.Task, v, d, e) = elim d.here [ ]
+  opened (l ∷ ls) ms m cs u h k (kind.Method, v, d, e) = none_more _ _ cs (l ∷ ls) (h, method_blocks Methods (ms ++ with m cs ∷ []) l v ls u (opened ls) d e)
+  opened (l ∷ ls) ms m cs u h k (kind.Before, v, d, e) = constraint_open ls ms m cs l v u (opened ls) k (before_said Methods (tables F A K (ms ++ with m cs ∷ [])) l v d) e
+  opened (l ∷ ls) ms m cs u h k (kind.After, v, d, e) = constraint_open ls ms m cs l v u (opened ls) k (after_said Methods (tables F A K (ms ++ with m cs ∷ [])) l v d) e
+  opened (l ∷ ls) ms m cs u h k (kind.Between, v, d, e) = constraint_open ls ms m cs l v u (opened ls) k (between_said Methods (tables F A K (ms ++ with m cs ∷ [])) l v d) e
+  opened (l ∷ ls) ms m cs u h k (kind.Closing, v, d, e) = none_more _ _ cs (l ∷ ls) (h, closing_blocks Methods (ms ++ with m cs ∷ []) l v ls u k d e)
+
+  -- the first block, or the closing line
+  first-block : (p : Section) (c : Kind) (l : Bytes) (v : Tables) (ls : List Bytes) (u : Tables) → (c ≡ kind.Method) ⊎ (c ≡ kind.Closing) → Lined p (tables F A K []) l c v → Ends (group c) v ls u → Blocks [] (l ∷ ls) u
+  first-block p c l v ls u (inl q) d e = method_blocks p [] l v ls u (opened ls) (subst (λ (c : Kind). Lined p (tables F A K []) l c v) q d) (subst (λ (c : Kind). Ends (group c) v ls u) q e)
+  first-block p c l v ls u (inr q) d e = closing_blocks p [] l v ls u (omega arith) (subst (λ (c : Kind). Lined p (tables F A K []) l c v) q d) (subst (λ (c : Kind). Ends (group c) v ls u) q e)
 
 -- one more name at the end
 pub task_names_lem : (F : List Bytes) (A : List ActionEntry) (K new : List TaskEntry) (M : List Method)
@@ -207,163 +216,67 @@ action_names_lem F A new M =
     append-nil (map (λ (a : ActionEntry). a.name) (A ++ new)) ∙ map-append (λ (a : ActionEntry). a.name) A new
     ∙ ap (λ (ns : List Bytes). ns ++ map (λ (a : ActionEntry). a.name) new) (sym (append-nil (map (λ (a : ActionEntry). a.name) A)))
 
-module _ (F : List Bytes) (A : List ActionEntry) where
-  abbrev Tasked : List TaskEntry → List Bytes → Tables → Type 0
-  Tasked K ls u = Distinct (symbols (tables F A K [])) × (length K ≤ 48) × Blocks F A K [] ls u
+-- first come task lines, then methods and the closing line
+module _ (F : List Bytes) (A : List ActionEntry) (u : Tables) where
+  abbrev TasksFit : List TaskEntry → Type 0
+  TasksFit K = Distinct (symbols (tables F A K [])) × (length K ≤ 48)
 
-  -- the rest is task lines, methods and the closing line
-  pub record TaskPart (K : List TaskEntry) (ls : List Bytes) (u : Tables) : Type 0 where
-    pub lines : List Bytes
-    pub new : List TaskEntry
-    pub rest : List Bytes
-    pub order : ls ≡ lines ++ rest
-    pub each : Each IsTask lines new
-    pub then : Tasked (K ++ new) rest u
+  abbrev TaskPart : List Bytes → Type 0
+  TaskPart = Part IsTask (λ K ls. TasksFit K × Blocks F A K [] ls u) []
 
-  no_tasks : (K : List TaskEntry) (ls : List Bytes) (u : Tables) → Tasked K ls u → TaskPart K ls u
-  no_tasks K ls u h = record { lines = []; new = []; rest = ls; order = refl; each = tt; then = subst (λ (K : List TaskEntry). Tasked K ls u) (sym (append-nil K)) h }
+  task_part : (p : Section) (c : Kind) (l : Bytes) (v : Tables) (ls : List Bytes) → TasksFit [] → T (allowed Tasks c) → Lined p (tables F A [] []) l c v → Ends (group c) v ls u → TaskPart (l ∷ ls)
+  task_part p c l v ls f a d e =
+      first_part IsTask (λ K ls. TasksFit K × Blocks F A K [] ls u) (λ K. tables F A K []) TasksFit kind.Task (λ c. (c ≡ kind.Method) ⊎ (c ≡ kind.Closing)) u (λ q. cc) (λ c a. grind (arith, nat_tests)) said
+          (λ p K c l v ls f b d e. (f, first-block F A K p c l v ls u b d e)) p [] c l v ls f a d e
+    where
+      said : (p : Section) (K : List TaskEntry) (l : Bytes) (v : Tables) → TasksFit K → Lined p (tables F A K []) l kind.Task v → (x : TaskEntry) × IsTask l x × TasksFit (K ++ x ∷ []) × (tables F A (K ++ x ∷ []) [] ≡ v)
+      said p K l v f d =
+          let x = task_said p (tables F A K []) l v d in
+          let n = subst Distinct (sym (task_names_lem F A K (x.0 ∷ []) [])) (distinct_more (symbols (tables F A K [])) x.0.name f.0 x.2) in
+          (x.0, x.1, (n, omega (arith, x.3, length-append K (x.0 ∷ []))), x.4)
 
-  one_task : (K : List TaskEntry) (l : Bytes) (e : TaskEntry) (ls : List Bytes) (u : Tables) → IsTask l e → TaskPart (K ++ e ∷ []) ls u → TaskPart K (l ∷ ls) u
-  one_task K l e ls u i p =
-      record {
-        lines = l ∷ p.lines;
-        new = e ∷ p.new;
-        rest = p.rest;
-        order = ap (λ (ls : List Bytes). l ∷ ls) p.order;
-        each = (i, p.each);
-        then = subst (λ (K : List TaskEntry). Tasked K p.rest u) (append_assoc K (e ∷ []) p.new) p.then;
-      }
+-- first come action lines
+module _ (F : List Bytes) (u : Tables) where
+  abbrev ActionsFit : List ActionEntry → Type 0
+  ActionsFit A = Distinct (symbols (tables F A [] [])) × (length A ≤ 64)
 
-  abbrev TaskRests : List Bytes → Type 0
-  TaskRests ls = (K : List TaskEntry) (u : Tables) → Distinct (symbols (tables F A K [])) → length K ≤ 48 → Ends Tasks (tables F A K []) ls u → TaskPart K ls u
+  abbrev ActionPart : List Bytes → Type 0
+  ActionPart = Part (IsAction (tables F [] [] [])) (λ A ls. ActionsFit A × TaskPart F A u ls) []
 
-  task_line_lem : (s : Section) (c : Kind) (K : List TaskEntry) (l : Bytes) (v : Tables) (ls : List Bytes) (u : Tables) → TaskRests ls → T (allowed Tasks c)
-      → Distinct (symbols (tables F A K [])) → length K ≤ 48 → Lined s (tables F A K []) l c v → Ends (group c) v ls u → TaskPart K (l ∷ ls) u
-  task_line_lem s kind.Fact K l v ls u ih a n h d e = elim a [ ]
-  task_line_lem s kind.Action K l v ls u ih a n h d e = elim a [ ]
-  task_line_lem s kind.Task K l v ls u ih a n h d e =
-      let x = task_said s (tables F A K []) l v d in
-      let i = length-append K (x.0 ∷ []) in
-      let r = x.3 in
-      one_task K l x.0 ls u x.1 (ih (K ++ x.0 ∷ []) u
-      (subst Distinct (sym (task_names_lem F A K (x.0 ∷ []) [])) (distinct_more (symbols (tables F A K [])) x.0.name n x.2)) (omega arith)
-      (subst (λ (t : Tables). Ends Tasks t ls u) (sym x.4) e))
-  task_line_lem s kind.Method K l v ls u ih a n h d e = no_tasks K (l ∷ ls) u (n, h, method_blocks F A K s [] l v ls u (opened F A K ls) d e)
-  task_line_lem s kind.Before K l v ls u ih a n h d e = elim a [ ]
-  task_line_lem s kind.After K l v ls u ih a n h d e = elim a [ ]
-  task_line_lem s kind.Between K l v ls u ih a n h d e = elim a [ ]
-  task_line_lem s kind.Closing K l v ls u ih a n h d e = no_tasks K (l ∷ ls) u (n, h, closing_blocks F A K s [] l v ls u (omega arith) d e)
+  action_part : (p : Section) (c : Kind) (l : Bytes) (v : Tables) (ls : List Bytes) → T (allowed Actions c) → Lined p (tables F [] [] []) l c v → Ends (group c) v ls u → ActionPart (l ∷ ls)
+  action_part p c l v ls a d e =
+      first_part (IsAction (tables F [] [] [])) (λ A ls. ActionsFit A × TaskPart F A u ls) (λ A. tables F A [] []) ActionsFit kind.Action (λ c. T (allowed Tasks c)) u (λ q. cc) (λ c a. grind (arith, nat_tests)) said
+          (λ p A c l v ls f b d e. (f, task_part F A u p c l v ls (f.0, omega arith) b d e)) p [] c l v ls (tt, omega arith) a d e
+    where
+      said : (p : Section) (A : List ActionEntry) (l : Bytes) (v : Tables) → ActionsFit A → Lined p (tables F A [] []) l kind.Action v
+          → (x : ActionEntry) × IsAction (tables F [] [] []) l x × ActionsFit (A ++ x ∷ []) × (tables F (A ++ x ∷ []) [] [] ≡ v)
+      said p A l v f d =
+          let x = action_said p (tables F A [] []) l v d in
+          let n = subst Distinct (sym (action_names_lem F A (x.0 ∷ []) [])) (distinct_more (symbols (tables F A [] [])) x.0.name f.0 x.2) in
+          (x.0, action_moved F A [] [] [] [] [] l x.0 x.1, (n, omega (arith, x.3, length-append A (x.0 ∷ []))), x.4)
 
-  tasks : (ls : List Bytes) → TaskRests ls
-  tasks [] K u n h e = absurd (cc e.0)
-  tasks (l ∷ ls) K u n h (c, v, d, e) = task_line_lem Tasks c K l v ls u (tasks ls) d.here n h d e
+-- first come fact lines
+module _ (u : Tables) where
+  abbrev FactsFit : List Bytes → Type 0
+  FactsFit F = Distinct F × (length F ≤ 64)
 
-module _ (F : List Bytes) where
-  abbrev Actioned : List ActionEntry → List Bytes → Tables → Type 0
-  Actioned A ls u = (length A ≤ 64) × TaskPart F A [] ls u
-
-  -- the rest is action lines, task lines, methods and the closing line
-  pub record ActionPart (A : List ActionEntry) (ls : List Bytes) (u : Tables) : Type 0 where
-    pub lines : List Bytes
-    pub new : List ActionEntry
-    pub rest : List Bytes
-    pub order : ls ≡ lines ++ rest
-    pub each : Each (IsAction (tables F [] [] [])) lines new
-    pub then : Actioned (A ++ new) rest u
-
-  no_actions : (A : List ActionEntry) (ls : List Bytes) (u : Tables) → Actioned A ls u → ActionPart A ls u
-  no_actions A ls u h = record { lines = []; new = []; rest = ls; order = refl; each = tt; then = subst (λ (A : List ActionEntry). Actioned A ls u) (sym (append-nil A)) h }
-
-  one_action : (A : List ActionEntry) (l : Bytes) (a : ActionEntry) (ls : List Bytes) (u : Tables) → IsAction (tables F [] [] []) l a → ActionPart (A ++ a ∷ []) ls u → ActionPart A (l ∷ ls) u
-  one_action A l a ls u i p =
-      record {
-        lines = l ∷ p.lines;
-        new = a ∷ p.new;
-        rest = p.rest;
-        order = ap (λ (ls : List Bytes). l ∷ ls) p.order;
-        each = (i, p.each);
-        then = subst (λ (A : List ActionEntry). Actioned A p.rest u) (append_assoc A (a ∷ []) p.new) p.then;
-      }
-
-  abbrev ActionRests : List Bytes → Type 0
-  ActionRests ls = (A : List ActionEntry) (u : Tables) → Distinct (symbols (tables F A [] [])) → length A ≤ 64 → Ends Actions (tables F A [] []) ls u → ActionPart A ls u
-
-  action_line_lem : (s : Section) (c : Kind) (A : List ActionEntry) (l : Bytes) (v : Tables) (ls : List Bytes) (u : Tables) → ActionRests ls → T (allowed Actions c)
-      → Distinct (symbols (tables F A [] [])) → length A ≤ 64 → Lined s (tables F A [] []) l c v → Ends (group c) v ls u → ActionPart A (l ∷ ls) u
-  action_line_lem s kind.Fact A l v ls u ih a n h d e = elim a [ ]
-  action_line_lem s kind.Action A l v ls u ih a n h d e =
-      let x = action_said s (tables F A [] []) l v d in
-      let i = length-append A (x.0 ∷ []) in
-      let r = x.3 in
-      one_action A l x.0 ls u (action_moved F A [] [] [] [] [] l x.0 x.1) (ih (A ++ x.0 ∷ []) u
-      (subst Distinct (sym (action_names_lem F A (x.0 ∷ []) [])) (distinct_more (symbols (tables F A [] [])) x.0.name n x.2)) (omega arith)
-      (subst (λ (t : Tables). Ends Actions t ls u) (sym x.4) e))
-  action_line_lem s kind.Task A l v ls u ih a n h d e = no_actions A (l ∷ ls) u (h, task_line_lem F A s kind.Task [] l v ls u (tasks F A ls) tt n (omega arith) d e)
-  action_line_lem s kind.Method A l v ls u ih a n h d e = no_actions A (l ∷ ls) u (h, task_line_lem F A s kind.Method [] l v ls u (tasks F A ls) tt n (omega arith) d e)
-  action_line_lem s kind.Before A l v ls u ih a n h d e = elim a [ ]
-  action_line_lem s kind.After A l v ls u ih a n h d e = elim a [ ]
-  action_line_lem s kind.Between A l v ls u ih a n h d e = elim a [ ]
-  action_line_lem s kind.Closing A l v ls u ih a n h d e = no_actions A (l ∷ ls) u (h, task_line_lem F A s kind.Closing [] l v ls u (tasks F A ls) tt n (omega arith) d e)
-
-  actions : (ls : List Bytes) → ActionRests ls
-  actions [] A u n h e = absurd (cc e.0)
-  actions (l ∷ ls) A u n h (c, v, d, e) = action_line_lem Actions c A l v ls u (actions ls) d.here n h d e
-
-abbrev Facted : List Bytes → List Bytes → Tables → Type 0
-Facted F ls u = Distinct F × (length F ≤ 64) × ActionPart F [] ls u
-
--- the rest is fact lines, action lines, task lines, methods and the closing line
-pub record FactPart (F : List Bytes) (ls : List Bytes) (u : Tables) : Type 0 where
-  pub lines : List Bytes
-  pub new : List Bytes
-  pub rest : List Bytes
-  pub order : ls ≡ lines ++ rest
-  pub each : Each IsFact lines new
-  pub then : Facted (F ++ new) rest u
-
-no_facts : (F : List Bytes) (ls : List Bytes) (u : Tables) → Facted F ls u → FactPart F ls u
-no_facts F ls u h = record { lines = []; new = []; rest = ls; order = refl; each = tt; then = subst (λ (F : List Bytes). Facted F ls u) (sym (append-nil F)) h }
-
-one-fact : (F : List Bytes) (l n : Bytes) (ls : List Bytes) (u : Tables) → IsFact l n → FactPart (F ++ n ∷ []) ls u → FactPart F (l ∷ ls) u
-one-fact F l n ls u i p =
-    record {
-      lines = l ∷ p.lines;
-      new = n ∷ p.new;
-      rest = p.rest;
-      order = ap (λ (ls : List Bytes). l ∷ ls) p.order;
-      each = (i, p.each);
-      then = subst (λ (F : List Bytes). Facted F p.rest u) (append_assoc F (n ∷ []) p.new) p.then;
-    }
-
-abbrev FactRests : List Bytes → Type 0
-FactRests ls = (F : List Bytes) (u : Tables) → Distinct F → length F ≤ 64 → Ends Facts (tables F [] [] []) ls u → FactPart F ls u
-
-fact-line : (c : Kind) (F : List Bytes) (l : Bytes) (v : Tables) (ls : List Bytes) (u : Tables) → FactRests ls
-    → Distinct F → length F ≤ 64 → Lined Facts (tables F [] [] []) l c v → Ends (group c) v ls u → FactPart F (l ∷ ls) u
-fact-line kind.Fact F l v ls u ih n h d e =
-    let x = fact-said Facts (tables F [] [] []) l v d in
-    let i = length-append F (x.0 ∷ []) in
-    let r = x.3 in
-    one-fact F l x.0 ls u x.1 (ih (F ++ x.0 ∷ []) u (distinct_more F x.0 n x.2) (omega arith) (subst (λ (t : Tables). Ends Facts t ls u) (sym x.4) e))
-fact-line kind.Action F l v ls u ih n h d e = no_facts F (l ∷ ls) u (n, h, action_line_lem F Facts kind.Action [] l v ls u (actions F ls) tt tt (omega arith) d e)
-fact-line kind.Task F l v ls u ih n h d e = no_facts F (l ∷ ls) u (n, h, action_line_lem F Facts kind.Task [] l v ls u (actions F ls) tt tt (omega arith) d e)
-fact-line kind.Method F l v ls u ih n h d e = no_facts F (l ∷ ls) u (n, h, action_line_lem F Facts kind.Method [] l v ls u (actions F ls) tt tt (omega arith) d e)
-fact-line kind.Before F l v ls u ih n h d e = elim d.here [ ]
-fact-line kind.After F l v ls u ih n h d e = elim d.here [ ]
-fact-line kind.Between F l v ls u ih n h d e = elim d.here [ ]
-fact-line kind.Closing F l v ls u ih n h d e = no_facts F (l ∷ ls) u (n, h, action_line_lem F Facts kind.Closing [] l v ls u (actions F ls) tt tt (omega arith) d e)
-
-facts : (ls : List Bytes) → FactRests ls
-facts [] F u n h e = absurd (cc e.0)
-facts (l ∷ ls) F u n h (c, v, d, e) = fact-line c F l v ls u (facts ls) n h d e
+  fact-part : (ls : List Bytes) → Ends Facts (tables [] [] [] []) ls u → Part IsFact (λ F ls. FactsFit F × ActionPart F u ls) [] ls
+  fact-part ls e =
+      part IsFact (λ F ls. FactsFit F × ActionPart F u ls) (λ F. tables F [] [] []) FactsFit kind.Fact (λ c. T (allowed Actions c)) u (λ q. cc) (λ c a. grind (arith, nat_tests)) said
+          (λ p F c l v ls f b d e. (f, action_part F u p c l v ls b d e)) ls [] (tt, omega arith) e
+    where
+      said : (p : Section) (F : List Bytes) (l : Bytes) (v : Tables) → FactsFit F → Lined p (tables F [] [] []) l kind.Fact v → (x : Bytes) × IsFact l x × FactsFit (F ++ x ∷ []) × (tables (F ++ x ∷ []) [] [] [] ≡ v)
+      said p F l v f d =
+          let x = fact-said p (tables F [] [] []) l v d in
+          (x.0, x.1, (distinct_more F x.0 f.0 x.2, omega (arith, x.3, length-append F (x.0 ∷ []))), x.4)
 
 -- what an accepted text declares
 pub ends_declares : (text : List Bytes) (u : Tables) → Ends Facts (tables [] [] [] []) text u → Declares text u
 ends_declares text u e =
-    let p = facts text [] u tt (omega arith) e in
-    let q = p.then.2 in
+    let p = fact-part u text e in
+    let q = p.then.1 in
     let r = q.then.1 in
-    let b = r.then.2 in
+    let b = r.then.1 in
     let F = p.new in
     let A = q.new in
     let K = r.new in
@@ -377,11 +290,11 @@ ends_declares text u e =
       actions = each_map (IsAction (tables F [] [] [])) (IsAction (tables F A K b.new)) (λ l a h. action_moved F [] A [] K [] b.new l a h) q.lines A q.each;
       tasks = r.each;
       methods = each_map (IsMethod (tables F A K [])) (IsMethod (tables F A K b.new)) (λ x m h. again F A K b.new x m h) b.blocks b.new b.each;
-      fact_names = p.then.0;
-      symbol_names = r.then.0;
-      few_facts = p.then.1;
-      few_actions = q.then.0;
-      few_tasks = r.then.1;
+      fact_names = p.then.0.0;
+      symbol_names = r.then.0.0;
+      few_facts = p.then.0.1;
+      few_actions = q.then.0.1;
+      few_tasks = r.then.0.1;
       few_methods = b.few;
     })
   where

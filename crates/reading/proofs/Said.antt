@@ -86,6 +86,10 @@ line_inv s t l r e =
 row : (n : ℕ) (c : Kind) (fs : List Bytes) → length fs ≡ suc n → at fs 1 ≡ code c ∷ [] → fs ≡ (code c ∷ []) ∷ map (λ i. get_or fs i []) (range_with_len 1 n)
 row n c fs e q = fill_by_all (λ i. get_or fs i []) fs (suc n) [] e (λ k h. refl) ∙ ap (λ (f : Bytes). f ∷ map (λ i. get_or fs i []) (range_with_len 1 n)) q
 
+-- a method with no constraints
+abbrev pub bare : Method → Method
+bare m = record { owner = m.owner; price = m.price; grade = m.grade; subtasks = m.subtasks; constraints = [] }
+
 abbrev pub alone : Bytes → Block
 alone l = record { line = l; below = [] }
 
@@ -149,7 +153,7 @@ module _ (s : Section) (t : Tables) (l : Bytes) (v : Tables) where
         ap (λ (n : Bytes). add_task t (record { name = n; level = p.0; vanish = m.0 })) k.0 ∙ ok_eq r.1,
       )
 
-  pub method_said : Lined s t l kind.Method v → (m : Method) × IsMethod t (alone l) m × (length t.methods < 128) × (add_method t m ≡ v) × (m.constraints ≡ [])
+  pub method_said : Lined s t l kind.Method v → (m : Method) × IsMethod t (alone l) m × (length t.methods < 128) × (add_method t (bare m) ≡ v)
   method_said d =
       let o = bound (old_name (task_of t) (fields l) 2) _ v d.said in
       let p = bound (field (number_in (fields l) 3 0 1000)) _ v o.2 in
@@ -182,7 +186,6 @@ module _ (s : Section) (t : Tables) (l : Bytes) (v : Tables) where
         },
         ltb→lt _ _ r.0,
         ok_eq b.1,
-        refl,
       )
 
   -- a constraint line, and the tables with it
@@ -239,10 +242,6 @@ module _ (s : Section) (t : Tables) (l : Bytes) (v : Tables) where
 
   pub closing_said : Lined s t l kind.Closing v → (l ≡ codes "E") × (t ≡ v)
   closing_said d = (sym (parted_cut tab l).joins ∙ ap (joined tab) (row 0 kind.Closing (fields l) d.count d.letter), ok_eq d.said)
-
--- a method with no constraints
-abbrev pub bare : Method → Method
-bare m = record { owner = m.owner; price = m.price; grade = m.grade; subtasks = m.subtasks; constraints = [] }
 
 -- the kind of a constraint's line
 abbrev pub kind_for : Constraint → Kind
