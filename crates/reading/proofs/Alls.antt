@@ -55,17 +55,3 @@ pub length_last : {A : Type 0} (f : A → A) (xs : List A) → length (on_last f
 length_last f [] = refl
 length_last f (x ∷ []) = refl
 length_last f (x ∷ y ∷ ys) = ap suc (length_last f (y ∷ ys))
-
--- what the tests decide
-pub under : (a b : ℕ) → Decides (ltb a b) (a < b)
-under a b = (ltb→lt a b, lt→ltb a b)
-
-pub within : (a b : ℕ) → Decides (leb a b) (a ≤ b)
-within a b = (leb→le a b, le→leb a b)
-
-pub both : (a b : Bool) {P Q : Type 0} → Decides a P → Decides b Q → Decides (a && b) (P × Q)
-both a b d e = (λ h. let k = and_both a b h in (d.0 k.0, e.0 k.1), λ h. both-and a b (d.1 h.0) (e.1 h.1))
-
-pub each : {A : Type 0} (p : A → Bool) (P : A → Type 0) → ((x : A) → Decides (p x) (P x)) → (xs : List A) → Decides (all p xs) (All P xs)
-each p P d [] = (λ h. tt, λ h. tt)
-each p P d (x ∷ xs) = both (p x) (all p xs) (d x) (each p P d xs)

@@ -6,6 +6,7 @@ use Rattle.fields.specs.Text.{Bytes, at, name_form, number_form, value, only, it
 use Rattle.fields.specs.Read.{Read, name_in, number_in, mark_in, list_in, short_list_in, not_form}
 use Rattle.theory.specs.Lists.{All, all}
 use Rattle.theory.specs.Rules.{Decides}
+use Rattle.theory.proofs.Lists.{all_decided}
 use Rattle.theory.specs.declared.Subtask.{Subtask}
 use Rattle.reading.specs.declared.faults.DomainFault.{DomainFault}
 use Rattle.reading.specs.declared.faults.DomainFault.TheVariants.{Declared, Undeclared}
@@ -13,11 +14,11 @@ use Rattle.reading.specs.Tables.{Tables, fact_of, symbol_of}
 use Rattle.reading.specs.Lines.{found, field, is_none, new_name, old_name, taking, with_fact, with_last, fact_set, subtask_list}
 use Rattle.reading.specs.Declares.{Each, Distinct, Names, IsNumber, IsMark, set_of, IsFactSet, IsSubtask}
 use Rattle.reading.proofs.Checks.{step, pass, bound, passed, got, read, ok_eq}
-use Rattle.reading.proofs.Alls.{each, each_map}
+use Rattle.reading.proofs.Alls.{each_map}
 use Rattle.reading.proofs.Lookups.{index_names, names_index, symbol_names_lem, names_symbol, symbols}
 
 names_all : (ns : List Bytes) → Decides (all name_form ns) (All (λ n. T (name_form n)) ns)
-names_all = each name_form (λ n. T (name_form n)) (λ n. (λ h. h, λ h. h))
+names_all = all_decided name_form (λ n. T (name_form n)) (λ n. (λ h. h, λ h. h))
 
 only-is : (b : ℕ) (f : Bytes) → T (only b f) → f ≡ b ∷ []
 only-is b [] h = absurd h
