@@ -21,14 +21,10 @@ use Rattle.reading.proofs.Ends.{Ends}
 
 -- among methods each constraint may stand
 constraint_here : (x : Constraint) → T (allowed Methods (kind_for x))
-constraint_here (Before j f) = tt
-constraint_here (After j f) = tt
-constraint_here (Between i f j) = tt
+constraint_here x = grind arith
 
 constraint_group : (x : Constraint) → Methods ≡ group (kind_for x)
-constraint_group (Before j f) = refl
-constraint_group (After j f) = refl
-constraint_group (Between i f j) = refl
+constraint_group x = grind arith
 
 -- lines that are entries of one table, each of which is accepted before the lines that follow
 module _ {A : Type 0} (R : Bytes → A → Type 0) (P : List A → List Bytes → Type 0) (Fits : List A → Type 0)

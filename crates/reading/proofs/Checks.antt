@@ -21,16 +21,10 @@ bound (Ok a) f y e = (a, refl, e)
 bound (Err g) f y e = absurd cc
 
 pub passed : {A : Type 0} (b : Bool) (g : DomainFault) (x : Check A) (y : A) → (must b g >> x) ≡ Ok y → T b × (x ≡ Ok y)
-passed true g x y e = (tt, e)
-passed false g x y e = grind arith
+passed b g x y e = grind arith
 
 pub got : {A : Type 0} (o : Option A) (g : DomainFault) (y : A) → found o g ≡ Ok y → o ≡ Some y
-got (Some x) g y e = cc
-got None g y e = cc
-
-pub read : {A : Type 0} (r : Read A) (y : A) → field r ≡ Ok y → r ≡ Ok y
-read (Ok x) y e = cc
-read (Err g) y e = absurd (grind arith)
+got o g y e = grind arith
 
 pub ok_eq : {A : Type 0} {x y : A} → ◌≡◌ {A = Check A} (Ok x) (Ok y) → x ≡ y
 ok_eq e = cc

@@ -13,7 +13,7 @@ use Rattle.reading.specs.declared.faults.DomainFault.TheVariants.{Declared, Unde
 use Rattle.reading.specs.Tables.{Tables, fact_of, symbol_of}
 use Rattle.reading.specs.Lines.{found, field, is_none, new_name, old_name, taking, with_fact, with_last, fact_set, subtask_list}
 use Rattle.reading.specs.Declares.{Each, Distinct, Names, IsNumber, IsMark, set_of, IsFactSet, IsSubtask}
-use Rattle.reading.proofs.Checks.{step, pass, bound, passed, got, read, ok_eq}
+use Rattle.reading.proofs.Checks.{step, pass, bound, passed, got, ok_eq}
 use Rattle.reading.proofs.Alls.{each_map}
 use Rattle.reading.proofs.Lookups.{index_names, names_index, symbol_names_lem, names_symbol, symbols}
 

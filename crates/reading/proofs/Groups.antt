@@ -84,7 +84,7 @@ module _ {A : Type 0} where
 
 -- what is said of a fact set speaks only of the facts
 set_moved : (t u : Tables) (f : Bytes) (set : ℕ) → t.facts ≡ u.facts → IsFactSet t f set → IsFactSet u f set
-set_moved t u f set e h = record { names = h.names; numbers = h.numbers; named = rw e at h.named; is = h.is }
+set_moved t u f set e h = grind arith
 
 module _ (F : List Bytes) where
   pub action_moved : (A B : List ActionEntry) (K L : List TaskEntry) (M N : List Method) (l : Bytes) (a : ActionEntry) → IsAction (tables F A K M) l a → IsAction (tables F B L N) l a

@@ -25,7 +25,7 @@ use Rattle.reading.specs.Lines.{found, field, new_name, old_name, taking, with_f
 use Rattle.reading.specs.Reading.{declared}
 use Rattle.reading.specs.Sound.{SubtaskIn, ConstraintIn, SoundAction, SoundMethod, Sound, sound}
 use Rattle.reading.specs.Declares.{Names, IsFactSet, IsSubtask, set_of}
-use Rattle.reading.proofs.Checks.{bound, passed, got, read, ok_eq}
+use Rattle.reading.proofs.Checks.{bound, passed, got, ok_eq}
 use Rattle.reading.proofs.Alls.{all_map, all_both, all_left, all_right, all_last, each_length, each_right, length_last}
 use Rattle.reading.proofs.Lookups.{index_names}
 use Rattle.reading.proofs.Fields.{old_said, number-said, set_said, subtasks-said}
@@ -60,18 +60,13 @@ record Grown (t u : Tables) : Type 0 where
 
 module _ (t u : Tables) (g : Grown t u) where
   subtask_still : (s : Subtask) → SubtaskIn (length t.actions) (length t.tasks) s → SubtaskIn (length u.actions) (length u.tasks) s
-  subtask_still (Primitive a) h = omega (arith, h, g.actions)
-  subtask_still (Compound j) h = omega (arith, h, g.tasks)
+  subtask_still s h = grind (arith, g.actions, g.tasks)
 
   constraint_still : (k : ℕ) (c : Constraint) → ConstraintIn (length t.facts) k c → ConstraintIn (length u.facts) k c
-  constraint_still k (Before j f) h = (h.0, omega (arith, h.1, g.facts))
-  constraint_still k (After j f) h = (h.0, omega (arith, h.1, g.facts))
-  constraint_still k (Between i f j) h = (h.0, h.1, h.2, omega (arith, h.3, g.facts))
+  constraint_still k c h = grind (arith, g.facts)
 
   action_still : (a : ActionEntry) → SoundAction (length t.facts) a → SoundAction (length u.facts) a
-  action_still a s =
-      let p : 2 ^ length t.facts ≤ 2 ^ length u.facts = pow_mono g.facts in
-      record { needs = omega (arith, s.needs, p); adds = omega (arith, s.adds, p); deletes = omega (arith, s.deletes, p) }
+  action_still a s = let p : 2 ^ length t.facts ≤ 2 ^ length u.facts = pow_mono g.facts in grind arith
 
   vanishing_before : (ss : List Subtask) → All (SubtaskIn (length t.actions) (length t.tasks)) ss → All (Vanishing (ranks u)) ss → All (Vanishing (ranks t)) ss
   vanishing_before [] h v = tt

@@ -24,15 +24,10 @@ refused_all f [] = tt
 refused_all f (v ∷ vs) = (refl, refused_all f vs)
 
 faulted_open : (s : Section) (t : Tables) (n : ℕ) (d : DomainFault) → (s ≡ Closed → ⊥) → faulted s t n d ≡ refused (fault_at d n)
-faulted_open Facts t n d o = refl
-faulted_open Actions t n d o = refl
-faulted_open Tasks t n d o = refl
-faulted_open Methods t n d o = refl
-faulted_open Closed t n d o = absurd (o refl)
+faulted_open s t n d o = grind arith
 
 taken_refused : (s : Section) (t : Tables) (n : ℕ) (x : Check (Section × Tables)) (f : Fault) → (s ≡ Closed → ⊥) → (taken s t n x).0 ≡ Err f → (taken s t n x).1 ≡ refused f
-taken_refused s t n (Ok (r, u)) f o e = absurd cc
-taken_refused s t n (Err d) f o e = faulted_open s t n d o ∙ cc
+taken_refused s t n x f o e = grind (arith, faulted_open s t n)
 
 refuses : (r : Reader) (l : Bytes) (f : Fault) → ((t : Tables) (n : ℕ) → r ≡ reading Closed t n → ⊥) → (reads r l).0 ≡ Err f → (reads r l).1 ≡ refused f
 refuses (reading s t n) l f o e = taken_refused s t (counted n) (line s t l) f (λ q. o t n (ap (λ (s : Section). reading s t n) q)) e
@@ -44,11 +39,7 @@ first_fault_stays us l vs f o e =
 
 -- no line is allowed after the closing one
 closed_head : (l : Bytes) → head Closed l ≡ Err (Line Letter)
-closed_head l = go (kind_of (at (fields l) 1))
-  where
-    go : (o : Option Kind) → ◌>>=◌ {B = Kind} (found o (Line Letter)) (λ c. Err (Line Letter)) ≡ Err (Line Letter)
-    go (Some c) = refl
-    go None = refl
+closed_head l = grind arith
 
 closed_line : (t : Tables) (l : Bytes) → line Closed t l ≡ Err (Line Letter)
 closed_line t l = stop (λ c. declared c t (fields l) >>= (λ u. Ok (group c, u))) (closed_head l)
@@ -82,11 +73,7 @@ line-keeps s t l r h e =
 
 module _ (t : Tables) (n : ℕ) (h : T (sound t)) where
   stands-faulted : (s : Section) (d : DomainFault) → Stands n (faulted s t n d)
-  stands-faulted Facts d = tt
-  stands-faulted Actions d = tt
-  stands-faulted Tasks d = tt
-  stands-faulted Methods d = tt
-  stands-faulted Closed d = (refl, h)
+  stands-faulted s d = grind arith
 
   stands-taken : (s : Section) (x : Check (Section × Tables)) → ((r : Section × Tables) → x ≡ Ok r → T (sound r.1)) → Stands n (taken s t n x).1
   stands-taken s (Ok (r, u)) k = (refl, k (r, u) refl)

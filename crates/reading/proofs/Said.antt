@@ -46,14 +46,7 @@ letter_of (b ∷ []) c e = ap (λ (x : ℕ). x ∷ []) (kind_code b c e)
 letter_of (b ∷ d ∷ bs) c e = absurd cc
 
 of_letter : (c : Kind) → kind_of (code c ∷ []) ≡ Some c
-of_letter kind.Fact = refl
-of_letter kind.Action = refl
-of_letter kind.Task = refl
-of_letter kind.Method = refl
-of_letter kind.Before = refl
-of_letter kind.After = refl
-of_letter kind.Between = refl
-of_letter kind.Closing = refl
+of_letter c = grind arith
 
 -- a line of this kind may stand here, and with it the tables t become v
 pub record Lined (s : Section) (t : Tables) (l : Bytes) (c : Kind) (v : Tables) : Type 0 where
