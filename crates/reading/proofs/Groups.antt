@@ -88,48 +88,16 @@ set_moved t u f set e h = grind arith
 
 module _ (F : List Bytes) where
   pub action_moved : (A B : List ActionEntry) (K L : List TaskEntry) (M N : List Method) (l : Bytes) (a : ActionEntry) → IsAction (tables F A K M) l a → IsAction (tables F B L N) l a
-  action_moved A B K L M N l a h =
-      record {
-        needs = h.needs;
-        adds = h.adds;
-        deletes = h.deletes;
-        written = h.written;
-        name = h.name;
-        needed = set_moved (tables F A K M) (tables F B L N) h.needs a.needs refl h.needed;
-        added = set_moved (tables F A K M) (tables F B L N) h.adds a.adds refl h.added;
-        deleted = set_moved (tables F A K M) (tables F B L N) h.deletes a.deletes refl h.deleted;
-        apart = h.apart;
-      }
+  action_moved A B K L M N l a h = grind (arith, set_moved (tables F A K M) (tables F B L N))
 
 module _ (F : List Bytes) (A : List ActionEntry) (K : List TaskEntry) where
   pub constraint_moved : (M N : List Method) (k : ℕ) (l : Bytes) (x : Constraint) → IsConstraint (tables F A K M) k l x → IsConstraint (tables F A K N) k l x
-  constraint_moved M N k l (Before j f) h = record { position = h.position; fact = h.fact; written = h.written; placed = h.placed; form = h.form; named = h.named }
-  constraint_moved M N k l (After j f) h = record { position = h.position; fact = h.fact; written = h.written; placed = h.placed; form = h.form; named = h.named }
-  constraint_moved M N k l (Between i f j) h =
-      record { from = h.from; fact = h.fact; to = h.to; written = h.written; first = h.first; form = h.form; named = h.named; second = h.second }
+  constraint_moved M N k l x h = grind arith
 
   -- a method's line, and other constraint lines below it
   pub method_moved : (M N : List Method) (b : Block) (m : Method) (below : List Bytes) (cs : List Constraint) → IsMethod (tables F A K M) b m
       → Each (IsConstraint (tables F A K N) (length m.subtasks)) below cs → length below ≤ 4 → IsMethod (tables F A K N) (record { line = b.line; below = below }) (with m cs)
-  method_moved M N b m below cs h e r =
-      record {
-        owner = h.owner;
-        price = h.price;
-        grade = h.grade;
-        subtasks = h.subtasks;
-        written = h.written;
-        form = h.form;
-        owned = h.owned;
-        priced = h.priced;
-        graded = h.graded;
-        names = h.names;
-        few = h.few;
-        parts = h.parts;
-        mark = h.mark;
-        ladder = h.ladder;
-        constraints = e;
-        room = r;
-      }
+  method_moved M N b m below cs h e r = grind arith
 
   -- the rest is methods and the closing line
   pub record Blocks (ms : List Method) (ls : List Bytes) (u : Tables) : Type 0 where
