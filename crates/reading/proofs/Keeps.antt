@@ -65,8 +65,8 @@ module _ (t u : Tables) (g : Grown t u) where
   constraint_still : (k : ℕ) (c : Constraint) → ConstraintIn (length t.facts) k c → ConstraintIn (length u.facts) k c
   constraint_still k c h = grind (arith, g.facts)
 
-  action_still : (a : ActionEntry) → SoundAction (length t.facts) a → SoundAction (length u.facts) a
-  action_still a s = let p : 2 ^ length t.facts ≤ 2 ^ length u.facts = pow_mono g.facts in grind arith
+  actions_still : (xs : List ActionEntry) → All (SoundAction (length t.facts)) xs → All (SoundAction (length u.facts)) xs
+  actions_still = all_map (SoundAction (length t.facts)) (SoundAction (length u.facts)) (λ a s. let p : 2 ^ length t.facts ≤ 2 ^ length u.facts = pow_mono g.facts in grind arith)
 
   vanishing_before : (ss : List Subtask) → All (SubtaskIn (length t.actions) (length t.tasks)) ss → All (Vanishing (ranks u)) ss → All (Vanishing (ranks t)) ss
   vanishing_before [] h v = tt
@@ -89,6 +89,9 @@ module _ (t u : Tables) (g : Grown t u) where
             omega (arith, k, ap (λ (k : Task). k.level) (g.same j r.0), ap (λ (k : Task). k.level) o);
       }
 
+  methods_still : (ms : List Method) → All (SoundMethod t) ms → All (SoundMethod u) ms
+  methods_still = all_map (SoundMethod t) (SoundMethod u) method_still
+
 -- each kind of line
 module _ (t u : Tables) (fs : List Bytes) where
   fact-keeps : fact_line t fs ≡ Ok u → Sound t → Sound u
@@ -96,15 +99,7 @@ module _ (t u : Tables) (fs : List Bytes) where
       let n = bound (new_name (fact_of t) fs 2) _ u e in
       let r = passed (ltb (length t.facts) 64) Full (Ok (add_fact t n.0)) u n.2 in
       let g : Grown t (add_fact t n.0) = record { facts = longer t.facts n.0; actions = omega arith; tasks = omega arith; same = λ i h. refl } in
-      subst Sound (ok_eq r.1) (record {
-        facts = added t.facts n.0 64 r.0;
-        actions = s.actions;
-        tasks = s.tasks;
-        methods = s.methods;
-        sets = all_map _ _ (action_still t (add_fact t n.0) g) t.actions s.sets;
-        levels = s.levels;
-        ways = all_map _ _ (method_still t (add_fact t n.0) g) t.methods s.ways;
-      })
+      subst Sound (ok_eq r.1) (grind (arith, added t.facts n.0 64 r.0, actions_still t (add_fact t n.0) g t.actions s.sets, methods_still t (add_fact t n.0) g t.methods s.ways))
 
   action_keeps : action_line t fs ≡ Ok u → Sound t → Sound u
   action_keeps e s =
@@ -121,15 +116,7 @@ module _ (t u : Tables) (fs : List Bytes) where
         deletes = fact_set-lt t _ x.0 (set_said t fs 5 x.0 x.1);
       } in
       let g : Grown t (add_action t v) = record { facts = omega arith; actions = longer t.actions v; tasks = omega arith; same = λ i h. refl } in
-      subst Sound (ok_eq b.1) (record {
-        facts = s.facts;
-        actions = added t.actions v 64 r.0;
-        tasks = s.tasks;
-        methods = s.methods;
-        sets = all_both _ t.actions (v ∷ []) s.sets (w, tt);
-        levels = s.levels;
-        ways = all_map _ _ (method_still t (add_action t v) g) t.methods s.ways;
-      })
+      subst Sound (ok_eq b.1) (grind (arith, added t.actions v 64 r.0, all_both (SoundAction (length t.facts)) t.actions (v ∷ []) s.sets (w, tt), methods_still t (add_action t v) g t.methods s.ways))
 
   task_keeps : task_line t fs ≡ Ok u → Sound t → Sound u
   task_keeps e s =
@@ -144,15 +131,8 @@ module _ (t u : Tables) (fs : List Bytes) where
         tasks = longer t.tasks v;
         same = λ i h. ap (λ (ks : List Task). get_or ks i no_task) (map-append rank t.tasks (v ∷ [])) ∙ get_or-append (ranks t) (rank v ∷ []) no_task i (rw length-map h);
       } in
-      subst Sound (ok_eq r.1) (record {
-        facts = s.facts;
-        actions = s.actions;
-        tasks = added t.tasks v 48 r.0;
-        methods = s.methods;
-        sets = s.sets;
-        levels = all_both _ t.tasks (v ∷ []) s.levels ((number-said fs 3 0 7 p.0 p.1).3, tt);
-        ways = all_map _ _ (method_still t (add_task t v) g) t.methods s.ways;
-      })
+      let levels = all_both (λ (e : TaskEntry). e.level ≤ 7) t.tasks (v ∷ []) s.levels ((number-said fs 3 0 7 p.0 p.1).3, tt) in
+      subst Sound (ok_eq r.1) (grind (arith, added t.tasks v 48 r.0, levels, methods_still t (add_task t v) g t.methods s.ways))
 
   method_keeps : method_line t fs ≡ Ok u → Sound t → Sound u
   method_keeps e s =
@@ -175,36 +155,17 @@ module _ (t u : Tables) (fs : List Bytes) where
         mark = rules.0.0 a.0;
         ladder = rules.1.0 b.0;
       } in
-      subst Sound (ok_eq b.1) (record {
-        facts = s.facts;
-        actions = s.actions;
-        tasks = s.tasks;
-        methods = added t.methods v 128 r.0;
-        sets = s.sets;
-        levels = s.levels;
-        ways = all_both (SoundMethod (add_method t v)) t.methods (v ∷ []) (all_map _ _ (method_still t (add_method t v) g) t.methods s.ways) (w, tt);
-      })
+      let ways = all_both (SoundMethod (add_method t v)) t.methods (v ∷ []) (methods_still t (add_method t v) g t.methods s.ways) (w, tt) in
+      subst Sound (ok_eq b.1) (grind (arith, added t.methods v 128 r.0, ways))
 
 -- the last method takes a constraint in range
 constraint_keeps : (t : Tables) (c : Constraint) → Sound t → ConstraintIn (length t.facts) (arity t) c → Sound (add_constraint t c)
 constraint_keeps t c s k =
     let g : Grown t (add_constraint t c) = record { facts = omega arith; actions = omega arith; tasks = omega arith; same = λ i h. refl } in
-    record {
-      facts = s.facts;
-      actions = s.actions;
-      tasks = s.tasks;
-      methods = omega (arith, s.methods, length_last (constrained c) t.methods);
-      sets = s.sets;
-      levels = s.levels;
-      ways = all_last _ (constrained c) no_method t.methods (all_map _ _ (method_still t (add_constraint t c) g) t.methods s.ways) (λ w. record {
-        owner = w.owner;
-        subtasks = w.subtasks;
-        few = w.few;
-        constraints = all_both _ (last_method t).constraints (c ∷ []) w.constraints (k, tt);
-        mark = w.mark;
-        ladder = w.ladder;
-      });
-    }
+    let more : SoundMethod (add_constraint t c) (last_method t) → SoundMethod (add_constraint t c) (constrained c (last_method t)) = λ w.
+        let cs = all_both (ConstraintIn (length t.facts) (arity t)) (last_method t).constraints (c ∷ []) w.constraints (k, tt) in grind (arith, cs) in
+    let ways = all_last (SoundMethod (add_constraint t c)) (constrained c) no_method t.methods (methods_still t (add_constraint t c) g t.methods s.ways) more in
+    grind (arith, length_last (constrained c) t.methods, ways)
 
 module _ (t u : Tables) (fs : List Bytes) where
   fact_here : (k f : ℕ) → old_name (fact_of t) fs k ≡ Ok f → f < length t.facts
