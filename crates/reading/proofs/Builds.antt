@@ -1,4 +1,4 @@
--- a text that declares these tables is accepted, line by line
+-- a text is accepted exactly when it declares what it closes with
 use Rattle.std.proofs.Common.{◌≡◌, ℕ, ◌+◌, ◌<◌, ◌≤◌, T, List, [], ◌∷◌, ◌++◌, map, length, codes, sym, refl, ap, subst, append_assoc, append-nil, arith, length-append}
 use Rattle.std.proofs.lemmas.Bool.Decides.{nat_tests}
 use Rattle.fields.specs.Text.{Bytes}
@@ -9,15 +9,15 @@ use Rattle.reading.specs.declared.kinds.Kind.{Kind}
 use Rattle.reading.specs.declared.kinds.Kind.TheVariants as kind
 use Rattle.reading.specs.declared.kinds.Section.{Section}
 use Rattle.reading.specs.declared.kinds.Section.TheVariants.{Facts, Actions, Tasks, Methods, Closed}
-use Rattle.reading.specs.Tables.{Tables, ActionEntry, TaskEntry, constrained, add_constraint}
+use Rattle.reading.specs.Tables.{Tables, empty, ActionEntry, TaskEntry, constrained, add_constraint}
 use Rattle.reading.specs.Lines.{last_method}
 use Rattle.reading.specs.Reading.{group, allowed}
-use Rattle.reading.specs.Declares.{Each, Distinct, IsFact, IsAction, IsTask, IsConstraint, IsMethod, Block, block_lines, Declares}
+use Rattle.reading.specs.Declares.{Each, Distinct, IsFact, IsAction, IsTask, IsConstraint, IsMethod, Block, block_lines, Declares, TextDeclares}
 use Rattle.reading.proofs.Alls.{each_length}
 use Rattle.reading.proofs.Lookups.{distinct_left, distinct_mid, symbols}
 use Rattle.reading.proofs.Said.{bare, kind_for, said-fact, said_action, said_task, said_method, said_constraint, said_closing}
-use Rattle.reading.proofs.Groups.{tables, with, last_of, on_last_lem, action_moved, constraint_moved, method_moved, task_names_lem, action_names_lem}
-use Rattle.reading.proofs.Ends.{Ends}
+use Rattle.reading.proofs.Groups.{tables, with, last_of, on_last_lem, action_moved, constraint_moved, method_moved, task_names_lem, action_names_lem, ends_declares}
+use Rattle.reading.proofs.Ends.{Ends, goes_ends, ends_goes}
 
 -- among methods each constraint may stand
 constraint_here : (x : Constraint) → T (allowed Methods (kind_for x))
@@ -106,7 +106,7 @@ facts_end u ls rest new i n r =
     (kind.Fact, tables (F ++ x ∷ []) [] [] [], said-fact s (tables F [] [] []) l x a i (distinct_mid F x new f.0) (before_more F x new 64 f.1), e Facts tt)) ls rest new [] i (n, r)
 
 -- a text that declares these tables is accepted, and closes with them
-pub declares_ends : (text : List Bytes) (t : Tables) → Declares text t → Ends Facts (tables [] [] [] []) text t
+declares_ends : (text : List Bytes) (t : Tables) → Declares text t → Ends Facts (tables [] [] [] []) text t
 declares_ends text t d =
     let F = t.facts in
     let A = t.actions in
@@ -119,3 +119,6 @@ declares_ends text t d =
     (λ s a. blocks-ends F A K t.methods d.fact_names d.symbol_names d.blocks t.methods [] s (grind (arith, nat_tests)) d.methods d.few_methods)
     s (grind (arith, nat_tests))) s (grind (arith, nat_tests)))
     Facts tt)
+
+pub text_declares : TextDeclares
+text_declares text t = ((λ h. ends_declares text t (goes_ends text Facts empty 0 t h)), (λ d. ends_goes text Facts empty 0 t (declares_ends text t d)))

@@ -37,8 +37,8 @@ module _ (fs : List Bytes) (k : ℕ) where
   mark-said false e = grind (arith, only-is 110 (at fs k))
 
   pub said-mark : (v : Bool) → IsMark (at fs k) v → field (mark_in fs k) ≡ Ok v
-  said-mark true h = ap (λ (f : Bytes). field (cond (only 118 f) (Ok true) (cond (only 110 f) (Ok false) (not_form k)))) h
-  said-mark false h = ap (λ (f : Bytes). field (cond (only 118 f) (Ok true) (cond (only 110 f) (Ok false) (not_form k)))) h
+  said-mark true h = rw h refl
+  said-mark false h = rw h refl
 
   list_said : (ns : List Bytes) → field (list_in fs k) ≡ Ok ns → (items (at fs k) ≡ ns) × All (λ n. T (name_form n)) (items (at fs k))
   list_said ns e = grind (arith, names_all (items (at fs k)))

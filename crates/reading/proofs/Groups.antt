@@ -175,14 +175,10 @@ module _ (F : List Bytes) (A : List ActionEntry) (K : List TaskEntry) where
 -- one more name at the end
 pub task_names_lem : (F : List Bytes) (A : List ActionEntry) (K new : List TaskEntry) (M : List Method)
     → symbols (tables F A (K ++ new) M) ≡ symbols (tables F A K M) ++ map (λ (e : TaskEntry). e.name) new
-task_names_lem F A K new M =
-    ap (λ (ns : List Bytes). map (λ (a : ActionEntry). a.name) A ++ ns) (map-append (λ (e : TaskEntry). e.name) K new)
-    ∙ sym (append_assoc (map (λ (a : ActionEntry). a.name) A) (map (λ (e : TaskEntry). e.name) K) (map (λ (e : TaskEntry). e.name) new))
+task_names_lem F A K new M = simp (map-append, append_assoc) refl
 
 pub action_names_lem : (F : List Bytes) (A new : List ActionEntry) (M : List Method) → symbols (tables F (A ++ new) [] M) ≡ symbols (tables F A [] M) ++ map (λ (a : ActionEntry). a.name) new
-action_names_lem F A new M =
-    append-nil (map (λ (a : ActionEntry). a.name) (A ++ new)) ∙ map-append (λ (a : ActionEntry). a.name) A new
-    ∙ ap (λ (ns : List Bytes). ns ++ map (λ (a : ActionEntry). a.name) new) (sym (append-nil (map (λ (a : ActionEntry). a.name) A)))
+action_names_lem F A new M = simp (map-append, append-nil) refl
 
 -- first come task lines, then methods and the closing line
 module _ (F : List Bytes) (A : List ActionEntry) (u : Tables) where

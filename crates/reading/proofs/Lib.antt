@@ -3,11 +3,9 @@ pub mod Alls
 pub mod Sounds
 pub mod Keeps
 pub mod Runs
-mod Examples
 pub mod Lookups
 mod Fields
 mod Said
 mod Ends
 mod Groups
 mod Builds
-mod Declared

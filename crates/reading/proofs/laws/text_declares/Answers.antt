@@ -1,4 +1,4 @@
-use Rattle.reading.proofs.Declared.{text_declares}
+use Rattle.reading.proofs.Builds.{text_declares}
 use Rattle.reading.proofs.laws.text_declares.Goals as goal
 
 pub returns : goal.returns
