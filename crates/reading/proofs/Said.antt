@@ -109,17 +109,7 @@ module _ (s : Section) (t : Tables) (l : Bytes) (v : Tables) where
       let b = passed (eqb (bit_and a.0 x.0) 0) Clash _ v r.1 in
       let k = new-said (fields l) 2 (symbol_of t) n.0 n.1 in (
         record { name = at (fields l) 2; needs = p.0; adds = a.0; deletes = x.0 },
-        record {
-          needs = at (fields l) 3;
-          adds = at (fields l) 4;
-          deletes = at (fields l) 5;
-          written = (row 4 kind.Action (fields l) d.count d.letter, d.short);
-          name = k.1;
-          needed = set_said t (fields l) 3 p.0 p.1;
-          added = set_said t (fields l) 4 a.0 a.1;
-          deleted = set_said t (fields l) 5 x.0 x.1;
-          apart = eqb→eq _ _ b.0;
-        },
+        grind (arith, nat_tests, row 4 kind.Action (fields l) d.count d.letter, d.short, k.1, set_said t (fields l) 3 p.0 p.1, set_said t (fields l) 4 a.0 a.1, set_said t (fields l) 5 x.0 x.1, b.0),
         none_symbol t _ k.2,
         ltb→lt _ _ r.0,
         ap (λ (n : Bytes). add_action t (record { name = n; needs = p.0; adds = a.0; deletes = x.0 })) k.0 ∙ ok_eq b.1,
@@ -133,14 +123,7 @@ module _ (s : Section) (t : Tables) (l : Bytes) (v : Tables) where
       let r = passed (ltb (length t.tasks) 48) Full _ v m.2 in
       let k = new-said (fields l) 2 (symbol_of t) n.0 n.1 in (
         record { name = at (fields l) 2; level = p.0; vanish = m.0 },
-        record {
-          level = at (fields l) 3;
-          mark = at (fields l) 4;
-          written = (row 3 kind.Task (fields l) d.count d.letter, d.short);
-          name = k.1;
-          levelled = number-said (fields l) 3 0 7 p.0 p.1;
-          marked = mark-said (fields l) 4 m.0 m.1;
-        },
+        grind (arith, row 3 kind.Task (fields l) d.count d.letter, d.short, k.1, number-said (fields l) 3 0 7 p.0 p.1, mark-said (fields l) 4 m.0 m.1),
         none_symbol t _ k.2,
         ltb→lt _ _ r.0,
         ap (λ (n : Bytes). add_task t (record { name = n; level = p.0; vanish = m.0 })) k.0 ∙ ok_eq r.1,
@@ -159,24 +142,7 @@ module _ (s : Section) (t : Tables) (l : Bytes) (v : Tables) where
       let w = subtasks-said t (fields l) 5 ss.0 ss.1 in
       let rules = rules_decided (ranks t) o.0 ss.0 in (
         record { owner = o.0; price = p.0; grade = g.0; subtasks = ss.0; constraints = [] },
-        record {
-          owner = at (fields l) 2;
-          price = at (fields l) 3;
-          grade = at (fields l) 4;
-          subtasks = at (fields l) 5;
-          written = (row 4 kind.Method (fields l) d.count d.letter, d.short);
-          form = k.0;
-          owned = index_names _ (task_names t) o.0 k.1;
-          priced = number-said (fields l) 3 0 1000 p.0 p.1;
-          graded = number-said (fields l) 4 0 9 g.0 g.1;
-          names = w.0;
-          few = w.1;
-          parts = w.2;
-          mark = rules.0.0 a.0;
-          ladder = rules.1.0 b.0;
-          constraints = tt;
-          room = omega arith;
-        },
+        grind (arith, row 4 kind.Method (fields l) d.count d.letter, d.short, k.0, index_names (at (fields l) 2) (task_names t) o.0 k.1, number-said (fields l) 3 0 1000 p.0 p.1, number-said (fields l) 4 0 9 g.0 g.1, w, rules.0.0 a.0, rules.1.0 b.0),
         ltb→lt _ _ r.0,
         ok_eq b.1,
       )
@@ -193,14 +159,7 @@ module _ (s : Section) (t : Tables) (l : Bytes) (v : Tables) where
       let r = passed (ltb (length (last_method t).constraints) 4) Full _ v f.2 in
       let k = old_said (fields l) 3 (fact_of t) f.0 f.1 in (
         c j.0 f.0,
-        is j.0 f.0 (record {
-          position = at (fields l) 2;
-          fact = at (fields l) 3;
-          written = w;
-          placed = number-said (fields l) 2 0 (arity t) j.0 j.1;
-          form = k.0;
-          named = index_names _ t.facts f.0 k.1;
-        }),
+        is j.0 f.0 (grind (arith, w, number-said (fields l) 2 0 (arity t) j.0 j.1, k.0, index_names (at (fields l) 3) t.facts f.0 k.1)),
         ltb→lt _ _ r.0,
         ok_eq r.1,
       )
@@ -219,16 +178,7 @@ module _ (s : Section) (t : Tables) (l : Bytes) (v : Tables) where
       let r = passed (ltb (length (last_method t).constraints) 4) Full _ v j.2 in
       let k = old_said (fields l) 3 (fact_of t) f.0 f.1 in (
         Between i.0 f.0 j.0,
-        record {
-          from = at (fields l) 2;
-          fact = at (fields l) 3;
-          to = at (fields l) 4;
-          written = (row 3 kind.Between (fields l) d.count d.letter, d.short);
-          first = number-said (fields l) 2 1 (arity t) i.0 i.1;
-          form = k.0;
-          named = index_names _ t.facts f.0 k.1;
-          second = number-said (fields l) 4 (suc i.0) (arity t) j.0 j.1;
-        },
+        grind (arith, row 3 kind.Between (fields l) d.count d.letter, d.short, number-said (fields l) 2 1 (arity t) i.0 i.1, k.0, index_names (at (fields l) 3) t.facts f.0 k.1, number-said (fields l) 4 (suc i.0) (arity t) j.0 j.1),
         ltb→lt _ _ r.0,
         ok_eq r.1,
       )
