@@ -207,39 +207,29 @@ module _ (s : Section) (t : Tables) (l : Bytes) where
   pub said_action : (a : ActionEntry) → T (allowed s kind.Action) → IsAction t l a → Distinct t.facts → Fresh a.name (symbols t) → length t.actions < 64 → Lined s t l kind.Action (add_action t a)
   said_action a h i d f r =
       let fs : List Bytes = codes "A" ∷ a.name ∷ i.needs ∷ i.adds ∷ i.deletes ∷ [] in
-      lined kind.Action fs _ refl refl h i.written
-      (step _ (said-new fs 2 (symbol_of t) i.name (symbol_none t a.name f))
-      (step _ (said_set t fs 3 a.needs d i.needed) (step _ (said_set t fs 4 a.adds d i.added) (step _ (said_set t fs 5 a.deletes d i.deleted)
-      (pass Full (lt-ltb _ _ r) (pass Clash (eq-eqb _ _ i.apart) refl))))))
+      lined kind.Action fs _ refl refl h i.written (grind (arith, nat_tests, said-new fs 2 (symbol_of t) i.name (symbol_none t a.name f), said_set t fs 3 a.needs d i.needed, said_set t fs 4 a.adds d i.added, said_set t fs 5 a.deletes d i.deleted, r, i.apart))
 
   pub said_task : (e : TaskEntry) → T (allowed s kind.Task) → IsTask l e → Fresh e.name (symbols t) → length t.tasks < 48 → Lined s t l kind.Task (add_task t e)
   said_task e h i f r =
       let fs : List Bytes = codes "T" ∷ e.name ∷ i.level ∷ i.mark ∷ [] in
-      lined kind.Task fs _ refl refl h i.written
-      (step _ (said-new fs 2 (symbol_of t) i.name (symbol_none t e.name f))
-      (step _ (said-number fs 3 0 7 e.level i.levelled) (step _ (said-mark fs 4 e.vanish i.marked) (pass Full (lt-ltb _ _ r) refl))))
+      lined kind.Task fs _ refl refl h i.written (grind (arith, nat_tests, said-new fs 2 (symbol_of t) i.name (symbol_none t e.name f), said-number fs 3 0 7 e.level i.levelled, said-mark fs 4 e.vanish i.marked, r))
 
   pub said_method : (m : Method) → T (allowed s kind.Method) → IsMethod t (alone l) m → Distinct (symbols t) → length t.methods < 128 → Lined s t l kind.Method (add_method t (bare m))
   said_method m h i d r =
       let fs : List Bytes = codes "M" ∷ i.owner ∷ i.price ∷ i.grade ∷ i.subtasks ∷ [] in
       let rules = rules_decided (ranks t) m.owner m.subtasks in
-      lined kind.Method fs _ refl refl h i.written
-      (step _ (said_old fs 2 (task_of t) m.owner i.form (names_index i.owner (task_names t) m.owner (distinct_right (action_names t) (task_names t) d) i.owned))
-      (step _ (said-number fs 3 0 1000 m.price i.priced) (step _ (said-number fs 4 0 9 m.grade i.graded)
-      (step _ (said-subtasks t fs 5 m.subtasks d i.names i.few i.parts)
-      (pass Full (lt-ltb _ _ r) (pass Mark (is_true _ (rules.0.1 i.mark)) (pass Ladder (is_true _ (rules.1.1 i.ladder)) refl)))))))
+      let n = names_index i.owner (task_names t) m.owner (distinct_right (action_names t) (task_names t) d) i.owned in
+      lined kind.Method fs _ refl refl h i.written (grind (arith, nat_tests, said_old fs 2 (task_of t) m.owner i.form n, said-number fs 3 0 1000 m.price i.priced, said-number fs 4 0 9 m.grade i.graded, said-subtasks t fs 5 m.subtasks d i.names i.few i.parts, r, rules.0.1 i.mark, rules.1.1 i.ladder))
 
   said-position : (c : ℕ → ℕ → Constraint) (letter : Bytes) (j f : ℕ) (i : IsPosition t (arity t) letter l j f) → Distinct t.facts → length (last_method t).constraints < 4
       → position_line c t (letter ∷ i.position ∷ i.fact ∷ []) ≡ Ok (add_constraint t (c j f))
   said-position c letter j f i d r =
       let fs : List Bytes = letter ∷ i.position ∷ i.fact ∷ [] in
-      step _ (said-number fs 2 0 (arity t) j i.placed) (step _ (said_old fs 3 (fact_of t) f i.form (names_index i.fact t.facts f d i.named)) (pass Full (lt-ltb _ _ r) refl))
+      grind (arith, nat_tests, said-number fs 2 0 (arity t) j i.placed, said_old fs 3 (fact_of t) f i.form (names_index i.fact t.facts f d i.named), r)
 
   pub said_constraint : (x : Constraint) → T (allowed s (kind_for x)) → IsConstraint t (arity t) l x → Distinct t.facts → length (last_method t).constraints < 4 → Lined s t l (kind_for x) (add_constraint t x)
   said_constraint (Before j f) h i d r = lined kind.Before _ _ refl refl h i.written (said-position Before (codes "B") j f i d r)
   said_constraint (After j f) h i d r = lined kind.After _ _ refl refl h i.written (said-position After (codes "P") j f i d r)
   said_constraint (Between b f j) h i d r =
       let fs : List Bytes = codes "K" ∷ i.from ∷ i.fact ∷ i.to ∷ [] in
-      lined kind.Between fs _ refl refl h i.written
-      (step _ (said-number fs 2 1 (arity t) b i.first) (step _ (said_old fs 3 (fact_of t) f i.form (names_index i.fact t.facts f d i.named))
-      (step _ (said-number fs 4 (suc b) (arity t) j i.second) (pass Full (lt-ltb _ _ r) refl))))
+      lined kind.Between fs _ refl refl h i.written (grind (arith, nat_tests, said-number fs 2 1 (arity t) b i.first, said_old fs 3 (fact_of t) f i.form (names_index i.fact t.facts f d i.named), said-number fs 4 (suc b) (arity t) j i.second, r))
