@@ -16,36 +16,20 @@ use Rattle.reading.proofs.Checks.{step, pass, fail}
 use Rattle.domain.specs.Steps.{kind_in, section_after}
 
 kind_is : (o : Option Kind) (c : Kind) → ◌≡◌ {A = Result Kind LineFault} (Ok c) (ok_or o Letter) → o ≡ Some c
-kind_is (Some d) c e = let q : c ≡ d = cc in ap Some (sym q)
-kind_is None c e = absurd cc
+kind_is o c e = grind arith
 
 after_no : (s : Section) (c : Kind) (g : LineFault) → Err g ≡ section_after s c → (allowed s c ≡ false) × (g ≡ Letter)
-after_no s c g e = go (allowed s c) e
-  where
-    go : (b : Bool) → ◌≡◌ {A = Result Section LineFault} (Err g) (cond b (Ok (group c)) (Err Letter)) → (b ≡ false) × (g ≡ Letter)
-    go true e = absurd cc
-    go false e = (refl, cc)
+after_no s c g e = grind arith
 
 pub after_is : (s : Section) (c : Kind) (r : Section) → Ok r ≡ section_after s c → (allowed s c ≡ true) × (r ≡ group c)
-after_is s c r e = go (allowed s c) e
-  where
-    go : (b : Bool) → ◌≡◌ {A = Result Section LineFault} (Ok r) (cond b (Ok (group c)) (Err Letter)) → (b ≡ true) × (r ≡ group c)
-    go true e = (refl, cc)
-    go false e = absurd cc
+after_is s c r e = grind arith
 
 first-at : (fs : List Bytes) → at (take 5 fs) 1 ≡ at fs 1
 first-at [] = refl
 first-at (f ∷ fs) = refl
 
 at_most_five : (c : Kind) → field_count c ≤ 5
-at_most_five kind.Fact = omega arith
-at_most_five kind.Action = omega arith
-at_most_five kind.Task = omega arith
-at_most_five kind.Method = omega arith
-at_most_five kind.Before = omega arith
-at_most_five kind.After = omega arith
-at_most_five kind.Between = omega arith
-at_most_five kind.Closing = omega arith
+at_most_five c = grind arith
 
 module _ (l : Bytes) (five : List Bytes) (first : five ≡ take 5 (fields l)) (s : Section) (f : Bytes) (at_one : f ≡ at five 1) where
   found-is : found (kind_of (at (fields l) 1)) (Line Letter) ≡ found (kind_of f) (Line Letter)
@@ -71,18 +55,10 @@ module _ (l : Bytes) (five : List Bytes) (first : five ≡ take 5 (fields l)) (n
   counts-is b e = ap counted (sym wanted) ∙ ap₂ counts (sym count) (sym long) ∙ e
 
   counted_ok : Ok tt ≡ counting (counts n len) → counts n len ≡ true
-  counted_ok e = go (counts n len) e
-    where
-      go : (b : Bool) → Ok tt ≡ counting b → b ≡ true
-      go true e = refl
-      go false e = absurd cc
+  counted_ok e = grind arith
 
   counted_no : (f : LineFault) → Err f ≡ counting (counts n len) → (counts n len ≡ false) × (f ≡ Count n)
-  counted_no f e = go (counts n len) e
-    where
-      go : (b : Bool) → Err f ≡ counting b → (b ≡ false) × (f ≡ Count n)
-      go true e = absurd cc
-      go false e = (refl, cc)
+  counted_no f e = grind arith
 
   -- a line of the right number of fields has no others
   pub all-fields : Ok tt ≡ counting (counts n len) → five ≡ fields l
