@@ -1,16 +1,14 @@
 -- the head of a line, from what its parts answer
-use Rattle.std.proofs.Common.{◌≡◌, ℕ, ◌≤◌, Bool, true, false, cond, ◌&&◌, eqb, leb, List, [], ◌∷◌, length, take, Some, None, Ok, Err, Option, Result, sym, refl, ap, ◌∙◌, ap₂, arith, eqb→eq, take_all}
-use Rattle.std.proofs.lemmas.Float.{T_from_true}
+use Rattle.std.proofs.Common.{◌≡◌, ℕ, ◌≤◌, true, false, cond, ◌&&◌, eqb, leb, List, [], ◌∷◌, length, take, Some, Ok, Err, Option, Result, sym, refl, ap, ◌∙◌, arith, take_all}
+use Rattle.std.proofs.lemmas.Bool.Decides.{nat_tests}
 use Rattle.std.specs.Option.{ok_or}
 use Rattle.fields.specs.Text.{Bytes, fields, at}
 use Rattle.fields.specs.declared.faults.LineFault.{LineFault}
 use Rattle.fields.specs.declared.faults.LineFault.TheVariants.{Letter, Count}
-use Rattle.theory.proofs.Lists.{and_both}
-use Rattle.reading.specs.Lines.{found}
+use Rattle.reading.specs.Lines.{Check, ◌>>◌, must, found}
 use Rattle.reading.specs.Reading.{kind_of, allowed, group, field_count, head}
 use Rattle.reading.specs.declared.faults.DomainFault.TheVariants.{Line}
 use Rattle.reading.specs.declared.kinds.Kind.{Kind}
-use Rattle.reading.specs.declared.kinds.Kind.TheVariants as kind
 use Rattle.reading.specs.declared.kinds.Section.{Section}
 use Rattle.reading.proofs.Checks.{step, pass, fail}
 use Rattle.domain.specs.Steps.{kind_in, section_after}
@@ -31,49 +29,30 @@ first-at (f ∷ fs) = refl
 at_most_five : (c : Kind) → field_count c ≤ 5
 at_most_five c = grind arith
 
-module _ (l : Bytes) (five : List Bytes) (first : five ≡ take 5 (fields l)) (s : Section) (f : Bytes) (at_one : f ≡ at five 1) where
-  found-is : found (kind_of (at (fields l) 1)) (Line Letter) ≡ found (kind_of f) (Line Letter)
-  found-is = ap (λ (g : Bytes). found (kind_of g) (Line Letter)) (sym (first-at (fields l)) ∙ ap (λ (fs : List Bytes). at fs 1) (sym first) ∙ sym at_one)
+module _ (l : Bytes) (five : List Bytes) (first : five ≡ take 5 (fields l)) (f : Bytes) (at_one : f ≡ at five 1) where
+  found_kind : (c : Kind) → Ok c ≡ kind_in f → found (kind_of (at (fields l) 1)) (Line Letter) ≡ Ok c
+  found_kind c is =
+      ap (λ (g : Bytes). found (kind_of g) (Line Letter)) (sym (first-at (fields l)) ∙ ap (λ (fs : List Bytes). at fs 1) (sym first) ∙ sym at_one)
+      ∙ ap (λ (o : Option Kind). found o (Line Letter)) (kind_is (kind_of f) c is)
 
   -- the letter may not stand here
-  pub head_out : (c : Kind) (g : LineFault) → Ok c ≡ kind_in f → Err g ≡ section_after s c → head s l ≡ Err (Line g)
-  head_out c g is e =
-      let q = after_no s c g e in
-      step _ (found-is ∙ ap (λ (o : Option Kind). found o (Line Letter)) (kind_is (kind_of f) c is)) (fail (Line Letter) _ q.0) ∙ ap (λ (h : LineFault). Err (Line h)) (sym q.1)
+  pub head_out : (s : Section) (c : Kind) (g : LineFault) → Ok c ≡ kind_in f → Err g ≡ section_after s c → head s l ≡ Err (Line g)
+  head_out s c g is e = let q = after_no s c g e in step _ (found_kind c is) (fail (Line Letter) _ q.0) ∙ ap (λ (h : LineFault). Err (Line h)) (sym q.1)
 
 module _ (l : Bytes) (five : List Bytes) (first : five ≡ take 5 (fields l)) (n len : ℕ) (count : n ≡ length (fields l)) (long : len ≡ length l) (c : Kind) (k : ℕ) (wanted : k ≡ field_count c) where
-  abbrev counts : ℕ → ℕ → Bool
-  counts n len = eqb n k && leb len 255
+  abbrev counting : Result (Unit {0}) LineFault
+  counting = cond (eqb n k && leb len 255) (Ok tt) (Err (Count n))
 
-  abbrev counted : ℕ → Bool
-  counted k = eqb (length (fields l)) k && leb (length l) 255
-
-  abbrev counting : Bool → Result (Unit {0}) LineFault
-  counting b = cond b (Ok tt) (Err (Count n))
-
-  counts-is : (b : Bool) → counts n len ≡ b → counted (field_count c) ≡ b
-  counts-is b e = ap counted (sym wanted) ∙ ap₂ counts (sym count) (sym long) ∙ e
-
-  counted_ok : Ok tt ≡ counting (counts n len) → counts n len ≡ true
-  counted_ok e = grind arith
-
-  counted_no : (f : LineFault) → Err f ≡ counting (counts n len) → (counts n len ≡ false) × (f ≡ Count n)
-  counted_no f e = grind arith
+  abbrev counted : Check Kind
+  counted = must (eqb (length (fields l)) (field_count c) && leb (length l) 255) (Line (Count (length (fields l)))) >> Ok c
 
   -- a line of the right number of fields has no others
-  pub all-fields : Ok tt ≡ counting (counts n len) → five ≡ fields l
-  all-fields e =
-      let q = eqb→eq _ _ (and_both (eqb n k) (leb len 255) (T_from_true _ (counted_ok e))).0 in
-      first ∙ take_all 5 (fields l) (omega (arith, q, at_most_five c))
+  pub all-fields : Ok tt ≡ counting → five ≡ fields l
+  all-fields e = let q : n ≡ k = grind (arith, nat_tests) in first ∙ take_all 5 (fields l) (omega (arith, q, at_most_five c))
 
   module _ (s : Section) (f : Bytes) (at_one : f ≡ at five 1) (is : Ok c ≡ kind_in f) (here : allowed s c ≡ true) where
-    found_kind : found (kind_of (at (fields l) 1)) (Line Letter) ≡ Ok c
-    found_kind = found-is l five first s f at_one ∙ ap (λ (o : Option Kind). found o (Line Letter)) (kind_is (kind_of f) c is)
+    pub head_ok : Ok tt ≡ counting → head s l ≡ Ok c
+    head_ok e = let q : counted ≡ Ok c = grind (arith, nat_tests) in step _ (found_kind l five first f at_one c is) (pass (Line Letter) here q)
 
-    pub head_ok : Ok tt ≡ counting (counts n len) → head s l ≡ Ok c
-    head_ok e = step _ found_kind (pass (Line Letter) here (pass (Line (Count (length (fields l)))) (counts-is true (counted_ok e)) refl))
-
-    pub head_no : (g : LineFault) → Err g ≡ counting (counts n len) → head s l ≡ Err (Line g)
-    head_no g e =
-        let q = counted_no g e in
-        step _ found_kind (pass (Line Letter) here (fail (Line (Count (length (fields l)))) _ (counts-is false q.0))) ∙ ap (λ (k : ℕ). Err (Line (Count k))) (sym count) ∙ ap (λ (h : LineFault). Err (Line h)) (sym q.1)
+    pub head_no : (g : LineFault) → Err g ≡ counting → head s l ≡ Err (Line g)
+    head_no g e = let q : counted ≡ Err (Line g) = grind (arith, nat_tests) in step _ (found_kind l five first f at_one c is) (pass (Line Letter) here q)

@@ -251,9 +251,10 @@ ends_declares text u e =
       blocks = b.blocks;
       order = p.order ∙ ap (λ (ls : List Bytes). p.lines ++ ls) (q.order ∙ ap (λ (ls : List Bytes). q.lines ++ ls) (r.order ∙ ap (λ (ls : List Bytes). r.lines ++ ls) b.order));
       facts = p.each;
-      actions = each_map (IsAction (tables F [] [] [])) (IsAction (tables F A K b.new)) (λ l a h. action_moved F [] A [] K [] b.new l a h) q.lines A q.each;
+      actions = each_map (IsAction (tables F [] [] [])) (IsAction (tables F A K b.new)) (action_moved F [] A [] K [] b.new) q.lines A q.each;
       tasks = r.each;
-      methods = each_map (IsMethod (tables F A K [])) (IsMethod (tables F A K b.new)) (λ x m h. again F A K b.new x m h) b.blocks b.new b.each;
+      methods = each_map (IsMethod (tables F A K [])) (IsMethod (tables F A K b.new)) (λ x m h. method_moved F A K [] b.new x m x.below m.constraints h
+          (each_map (IsConstraint (tables F A K []) (length m.subtasks)) (IsConstraint (tables F A K b.new) (length m.subtasks)) (constraint_moved F A K [] b.new (length m.subtasks)) x.below m.constraints h.constraints) h.room) b.blocks b.new b.each;
       fact_names = p.then.0.0;
       symbol_names = r.then.0.0;
       few_facts = p.then.0.1;
@@ -261,9 +262,3 @@ ends_declares text u e =
       few_tasks = r.then.0.1;
       few_methods = b.few;
     })
-  where
-    again : (F : List Bytes) (A : List ActionEntry) (K : List TaskEntry) (M : List Method) (b : Block) (m : Method) → IsMethod (tables F A K []) b m → IsMethod (tables F A K M) b m
-    again F A K M b m h =
-        method_moved F A K [] M b m b.below m.constraints h
-        (each_map (IsConstraint (tables F A K []) (length m.subtasks)) (IsConstraint (tables F A K M) (length m.subtasks))
-        (λ l x i. constraint_moved F A K [] M (length m.subtasks) l x i) b.below m.constraints h.constraints) h.room

@@ -11,7 +11,7 @@ pub returns-in_err-next : goal.returns-in_err-next
 returns-in_err-next c =
     let r = c.args.self.now in
     let l = c.args.bytes.now in
-    let h = head_out l _ c.cut-line.ensures.first r.section _ c.field.ensures c.in_ok-kind.kind _ c.in_ok-kind.ensures c.in_err-next.ensures in
+    let h = head_out l _ c.cut-line.ensures.first _ c.field.ensures r.section c.in_ok-kind.kind _ c.in_ok-kind.ensures c.in_err-next.ensures in
     taken_err _ r r (line r.section (domain_tables r.domain) l) _ c.from_residual-in_err-next.ensures
     (λ e p. line-head r.section (domain_tables r.domain) l _ h ∙ ap (λ (f : DomainFault). Err f) (sym p)) refl refl (refl, refl)
 
