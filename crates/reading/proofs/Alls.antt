@@ -1,8 +1,6 @@
 -- what holds of every element of a list, and of each two elements of two lists; and the tests that decide it
-use Rattle.std.proofs.Common.{◌≡◌, ℕ, zero, suc, ◌<◌, ◌≤◌, Bool, ◌&&◌, ltb, leb, List, [], ◌∷◌, ◌++◌, length, get_or, refl, ap, le_of_suc-le-suc, not-suc-le-zero, le→leb, ltb→lt, lt→ltb, leb→le}
-use Rattle.theory.specs.Lists.{All, all}
-use Rattle.theory.specs.Rules.{Decides}
-use Rattle.theory.proofs.Lists.{and_both, both-and}
+use Rattle.std.proofs.Common.{◌≡◌, ℕ, zero, suc, ◌<◌, List, [], ◌∷◌, ◌++◌, length, get_or, refl, ap, le_of_suc-le-suc, not-suc-le-zero}
+use Rattle.theory.specs.Lists.{All}
 use Rattle.reading.specs.Tables.{on_last, last_or}
 use Rattle.reading.specs.Declares.{Each}
 

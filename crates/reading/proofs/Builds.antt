@@ -1,14 +1,13 @@
 -- a text is accepted exactly when it declares what it closes with
-use Rattle.std.proofs.Common.{◌≡◌, ℕ, ◌+◌, ◌<◌, ◌≤◌, T, List, [], ◌∷◌, ◌++◌, map, length, codes, sym, refl, ap, subst, append_assoc, append-nil, arith, length-append}
+use Rattle.std.proofs.Common.{◌≡◌, ℕ, ◌<◌, ◌≤◌, T, List, [], ◌∷◌, ◌++◌, map, length, codes, sym, refl, ap, subst, append_assoc, append-nil, arith, length-append}
 use Rattle.std.proofs.lemmas.Bool.Decides.{nat_tests}
 use Rattle.fields.specs.Text.{Bytes}
 use Rattle.theory.specs.Model.{Method, no_method}
 use Rattle.theory.specs.declared.Constraint.{Constraint}
-use Rattle.theory.specs.declared.Constraint.TheVariants.{Before, After, Between}
 use Rattle.reading.specs.declared.kinds.Kind.{Kind}
 use Rattle.reading.specs.declared.kinds.Kind.TheVariants as kind
 use Rattle.reading.specs.declared.kinds.Section.{Section}
-use Rattle.reading.specs.declared.kinds.Section.TheVariants.{Facts, Actions, Tasks, Methods, Closed}
+use Rattle.reading.specs.declared.kinds.Section.TheVariants.{Facts, Actions, Tasks, Methods}
 use Rattle.reading.specs.Tables.{Tables, empty, ActionEntry, TaskEntry, constrained, add_constraint}
 use Rattle.reading.specs.Lines.{last_method}
 use Rattle.reading.specs.Reading.{group, allowed}

@@ -1,8 +1,7 @@
 -- how a line's description computes, check by check, and what an accepting one has passed
-use Rattle.std.proofs.Common.{◌≡◌, ℕ, Bool, true, false, T, Some, None, Ok, Err, Option, refl, ap, ◌∙◌, arith}
-use Rattle.fields.specs.Read.{Read}
+use Rattle.std.proofs.Common.{◌≡◌, Bool, true, false, T, Some, Ok, Err, Option, refl, ap, ◌∙◌, arith}
 use Rattle.reading.specs.declared.faults.DomainFault.{DomainFault}
-use Rattle.reading.specs.Lines.{Check, ◌>>=◌, ◌>>◌, must, found, field}
+use Rattle.reading.specs.Lines.{Check, ◌>>=◌, ◌>>◌, must, found}
 
 pub step : {A B : Type 0} {x : Check A} {a : A} (f : A → Check B) {y : Check B} → x ≡ Ok a → f a ≡ y → (x >>= f) ≡ y
 step f e h = ap (λ z. z >>= f) e ∙ h

@@ -1,5 +1,5 @@
 -- an accepted text, line by line
-use Rattle.std.proofs.Common.{◌≡◌, ℕ, List, [], ◌∷◌, Ok, Err, sym, refl, subst, arith}
+use Rattle.std.proofs.Common.{◌≡◌, ℕ, List, [], ◌∷◌, Ok, Err, sym, refl, subst}
 use Rattle.fields.specs.Text.{Bytes}
 use Rattle.theory.specs.Lists.{All}
 use Rattle.reading.specs.declared.kinds.Kind.{Kind}

@@ -1,19 +1,19 @@
 -- what a field says, both ways
-use Rattle.std.proofs.Common.{◌≡◌, ℕ, ◌≤◌, Bool, true, false, cond, ◌&&◌, T, eqb, leb, List, [], ◌∷◌, ◌++◌, length, Some, None, Ok, Err, Option, Result, sym, refl, ap, ◌∙◌, subst, append_assoc, append-nil, arith, le→leb, eqb→eq, leb→le}
+use Rattle.std.proofs.Common.{◌≡◌, ℕ, ◌≤◌, Bool, true, false, T, List, [], ◌∷◌, ◌++◌, length, Some, None, Ok, Option, sym, refl, ap, ◌∙◌, subst, append_assoc, append-nil, arith}
 use Rattle.std.specs.List.{fold}
 use Rattle.std.proofs.lemmas.Bool.Decides.{nat_tests}
-use Rattle.fields.specs.Text.{Bytes, at, name_form, number_form, value, only, items}
-use Rattle.fields.specs.Read.{Read, name_in, number_in, mark_in, list_in, short_list_in, not_form}
+use Rattle.fields.specs.Text.{Bytes, at, name_form, only, items}
+use Rattle.fields.specs.Read.{number_in, mark_in, list_in, short_list_in}
 use Rattle.theory.specs.Lists.{All, all}
 use Rattle.theory.specs.Rules.{Decides}
 use Rattle.theory.proofs.Lists.{all_decided}
 use Rattle.theory.specs.declared.Subtask.{Subtask}
 use Rattle.reading.specs.declared.faults.DomainFault.{DomainFault}
-use Rattle.reading.specs.declared.faults.DomainFault.TheVariants.{Declared, Undeclared}
+use Rattle.reading.specs.declared.faults.DomainFault.TheVariants.{Undeclared}
 use Rattle.reading.specs.Tables.{Tables, fact_of, symbol_of}
-use Rattle.reading.specs.Lines.{found, field, is_none, new_name, old_name, taking, with_fact, with_last, fact_set, subtask_list}
+use Rattle.reading.specs.Lines.{found, field, new_name, old_name, taking, with_fact, with_last, fact_set, subtask_list}
 use Rattle.reading.specs.Declares.{Each, Distinct, Names, IsNumber, IsMark, set_of, IsFactSet, IsSubtask}
-use Rattle.reading.proofs.Checks.{step, pass, bound, passed, got, ok_eq}
+use Rattle.reading.proofs.Checks.{step, bound, got, ok_eq}
 use Rattle.reading.proofs.Alls.{each_map}
 use Rattle.reading.proofs.Lookups.{index_names, names_index, symbol_names_lem, names_symbol, symbols}
 

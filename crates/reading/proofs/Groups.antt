@@ -1,11 +1,10 @@
 -- the parts of an accepted text: fact lines, action lines, task lines, methods with their constraints
-use Rattle.std.proofs.Common.{◌≡◌, ℕ, ◌+◌, ◌<◌, ◌≤◌, T, ◌⊎◌, inl, inr, List, [], ◌∷◌, ◌++◌, map, length, codes, sym, refl, ap, ◌∙◌, subst, append_assoc, append-nil, arith, length-append}
+use Rattle.std.proofs.Common.{◌≡◌, ℕ, ◌<◌, ◌≤◌, T, ◌⊎◌, inl, inr, List, [], ◌∷◌, ◌++◌, map, length, codes, sym, refl, ap, ◌∙◌, subst, append_assoc, append-nil, arith, length-append}
 use mathlib.Core.List.{map-append}
 use Rattle.std.proofs.lemmas.Bool.Decides.{nat_tests}
 use Rattle.fields.specs.Text.{Bytes}
 use Rattle.theory.specs.Model.{Method, no_method}
 use Rattle.theory.specs.declared.Constraint.{Constraint}
-use Rattle.theory.specs.declared.Constraint.TheVariants.{Before, After, Between}
 use Rattle.reading.specs.declared.kinds.Kind.{Kind}
 use Rattle.reading.specs.declared.kinds.Kind.TheVariants as kind
 use Rattle.reading.specs.declared.kinds.Section.{Section}
@@ -58,10 +57,10 @@ module _ {A : Type 0} (R : Bytes → A → Type 0) (Then : List A → List Bytes
   part_line : (p : Section) (xs : List A) (c : Kind) (l : Bytes) (v : Tables) (ls : List Bytes) → ((xs : List A) → Fits xs → Ends (group k) (filled xs) ls u → Part R Then xs ls)
       → Fits xs → T (allowed (group k) c) → Lined p (filled xs) l c v → Ends (group c) v ls u → Part R Then xs (l ∷ ls)
   part_line p xs c l v ls ih f a d e = elim (sorts c a) [
-      inl q ↦
-      let x = said p xs l v f (subst (λ (c : Kind). Lined p (filled xs) l c v) q d) in
-      let g = subst (λ (c : Kind). Ends (group c) (filled (xs ++ x.0 ∷ [])) ls u) q (subst (λ (t : Tables). Ends (group c) t ls u) (sym x.3) e) in
-      one_more R Then xs l x.0 ls x.1 (ih (xs ++ x.0 ∷ []) x.2 g)
+    | inl q ↦
+        let x = said p xs l v f (subst (λ (c : Kind). Lined p (filled xs) l c v) q d) in
+        let g = subst (λ (c : Kind). Ends (group c) (filled (xs ++ x.0 ∷ [])) ls u) q (subst (λ (t : Tables). Ends (group c) t ls u) (sym x.3) e) in
+        one_more R Then xs l x.0 ls x.1 (ih (xs ++ x.0 ∷ []) x.2 g)
     | inr b ↦ none_more R Then xs (l ∷ ls) (ends p xs c l v ls f b d e)
   ]
 
@@ -191,7 +190,7 @@ module _ (F : List Bytes) (A : List ActionEntry) (u : Tables) where
   task_part : (p : Section) (c : Kind) (l : Bytes) (v : Tables) (ls : List Bytes) → TasksFit [] → T (allowed Tasks c) → Lined p (tables F A [] []) l c v → Ends (group c) v ls u → TaskPart (l ∷ ls)
   task_part p c l v ls f a d e =
       first_part IsTask (λ K ls. TasksFit K × Blocks F A K [] ls u) (λ K. tables F A K []) TasksFit kind.Task (λ c. (c ≡ kind.Method) ⊎ (c ≡ kind.Closing)) u (λ q. cc) (λ c a. grind (arith, nat_tests)) said
-          (λ p K c l v ls f b d e. (f, first-block F A K p c l v ls u b d e)) p [] c l v ls f a d e
+      (λ p K c l v ls f b d e. (f, first-block F A K p c l v ls u b d e)) p [] c l v ls f a d e
     where
       said : (p : Section) (K : List TaskEntry) (l : Bytes) (v : Tables) → TasksFit K → Lined p (tables F A K []) l kind.Task v → (x : TaskEntry) × IsTask l x × TasksFit (K ++ x ∷ []) × (tables F A (K ++ x ∷ []) [] ≡ v)
       said p K l v f d =
@@ -210,7 +209,7 @@ module _ (F : List Bytes) (u : Tables) where
   action_part : (p : Section) (c : Kind) (l : Bytes) (v : Tables) (ls : List Bytes) → T (allowed Actions c) → Lined p (tables F [] [] []) l c v → Ends (group c) v ls u → ActionPart (l ∷ ls)
   action_part p c l v ls a d e =
       first_part (IsAction (tables F [] [] [])) (λ A ls. ActionsFit A × TaskPart F A u ls) (λ A. tables F A [] []) ActionsFit kind.Action (λ c. T (allowed Tasks c)) u (λ q. cc) (λ c a. grind (arith, nat_tests)) said
-          (λ p A c l v ls f b d e. (f, task_part F A u p c l v ls (f.0, omega arith) b d e)) p [] c l v ls (tt, omega arith) a d e
+      (λ p A c l v ls f b d e. (f, task_part F A u p c l v ls (f.0, omega arith) b d e)) p [] c l v ls (tt, omega arith) a d e
     where
       said : (p : Section) (A : List ActionEntry) (l : Bytes) (v : Tables) → ActionsFit A → Lined p (tables F A [] []) l kind.Action v
           → (x : ActionEntry) × IsAction (tables F [] [] []) l x × ActionsFit (A ++ x ∷ []) × (tables F (A ++ x ∷ []) [] [] ≡ v)
@@ -227,7 +226,7 @@ module _ (u : Tables) where
   fact-part : (ls : List Bytes) → Ends Facts (tables [] [] [] []) ls u → Part IsFact (λ F ls. FactsFit F × ActionPart F u ls) [] ls
   fact-part ls e =
       part IsFact (λ F ls. FactsFit F × ActionPart F u ls) (λ F. tables F [] [] []) FactsFit kind.Fact (λ c. T (allowed Actions c)) u (λ q. cc) (λ c a. grind (arith, nat_tests)) said
-          (λ p F c l v ls f b d e. (f, action_part F u p c l v ls b d e)) ls [] (tt, omega arith) e
+      (λ p F c l v ls f b d e. (f, action_part F u p c l v ls b d e)) ls [] (tt, omega arith) e
     where
       said : (p : Section) (F : List Bytes) (l : Bytes) (v : Tables) → FactsFit F → Lined p (tables F [] [] []) l kind.Fact v → (x : Bytes) × IsFact l x × FactsFit (F ++ x ∷ []) × (tables (F ++ x ∷ []) [] [] [] ≡ v)
       said p F l v f d =

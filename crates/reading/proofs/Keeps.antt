@@ -1,31 +1,28 @@
 -- a line that is accepted keeps the tables sound
-use Rattle.std.proofs.Common.{◌≡◌, ℕ, suc, ◌+◌, ◌^◌, ◌<◌, ◌≤◌, Bool, true, false, cond, ◌&&◌, T, eqb, ltb, leb, List, [], ◌∷◌, ◌++◌, map, length, get_or, Some, None, Ok, Err, Option, sym, refl, ap, ◌∙◌, subst, ap₂, arith, le→leb, ltb→lt, lt→ltb, leb→le, length-append, pow_pos, pow_mono}
+use Rattle.std.proofs.Common.{◌≡◌, ℕ, suc, ◌^◌, ◌<◌, ◌≤◌, T, eqb, ltb, List, [], ◌∷◌, ◌++◌, length, get_or, Ok, sym, refl, ap, ◌∙◌, subst, arith, ltb→lt, length-append, pow_pos, pow_mono}
 use mathlib.Core.List.{map-append}
 use lib.Bits.{bit_and, or_lt}
 use lib.ListN.{length-map, get_or-append}
 use lib.Pow.{pow-lt}
-use Rattle.std.specs.Str.{bytes_eq}
-use Rattle.fields.specs.Text.{Bytes, at, name_form, number_form, value, items}
-use Rattle.fields.specs.Read.{Read, name_in, number_in, mark_in, list_in, short_list_in}
-use Rattle.fields.specs.declared.faults.FieldFault.{FieldFault}
+use Rattle.fields.specs.Text.{Bytes, at, items}
+use Rattle.fields.specs.Read.{number_in, mark_in}
 use Rattle.theory.specs.Lists.{All}
-use Rattle.theory.specs.Model.{Task, Method, Vanishing, no_task, no_method, level_of}
+use Rattle.theory.specs.Model.{Task, Method, Vanishing, no_task, no_method}
 use Rattle.theory.specs.Rules.{keeps_mark, keeps_ladder}
 use Rattle.theory.specs.declared.Subtask.{Subtask}
 use Rattle.theory.specs.declared.Subtask.TheVariants.{Primitive, Compound}
 use Rattle.theory.specs.declared.Constraint.{Constraint}
 use Rattle.theory.specs.declared.Constraint.TheVariants.{Before, After, Between}
 use Rattle.theory.proofs.Rules.{rules_decided}
-use Rattle.reading.specs.declared.faults.DomainFault.{DomainFault}
-use Rattle.reading.specs.declared.faults.DomainFault.TheVariants.{Undeclared, Full, Clash, Mark, Ladder}
+use Rattle.reading.specs.declared.faults.DomainFault.TheVariants.{Full, Clash, Mark, Ladder}
 use Rattle.reading.specs.declared.kinds.Kind.{Kind}
 use Rattle.reading.specs.declared.kinds.Kind.TheVariants as kind
-use Rattle.reading.specs.Tables.{Tables, ActionEntry, TaskEntry, rank, ranks, action_names, task_names, next, index_of, fact_of, task_of, or_task, symbol_of, add_fact, add_action, add_task, add_method, add_constraint, constrained}
-use Rattle.reading.specs.Lines.{found, field, new_name, old_name, taking, with_fact, with_last, fact_set, subtask_list, fact_line, action_line, task_line, method_line, last_method, arity, position_line, between_line}
+use Rattle.reading.specs.Tables.{Tables, ActionEntry, TaskEntry, rank, ranks, task_names, fact_of, task_of, symbol_of, add_fact, add_action, add_task, add_method, add_constraint, constrained}
+use Rattle.reading.specs.Lines.{field, new_name, old_name, with_fact, fact_set, subtask_list, fact_line, action_line, task_line, method_line, last_method, arity, position_line, between_line}
 use Rattle.reading.specs.Reading.{declared}
 use Rattle.reading.specs.Sound.{SubtaskIn, ConstraintIn, SoundAction, SoundMethod, Sound, sound}
 use Rattle.reading.specs.Declares.{Names, IsFactSet, IsSubtask, set_of}
-use Rattle.reading.proofs.Checks.{bound, passed, got, ok_eq}
+use Rattle.reading.proofs.Checks.{bound, passed, ok_eq}
 use Rattle.reading.proofs.Alls.{all_map, all_both, all_left, all_right, all_last, each_length, each_right, length_last}
 use Rattle.reading.proofs.Lookups.{index_names}
 use Rattle.reading.proofs.Fields.{old_said, number-said, set_said, subtasks-said}
@@ -163,7 +160,7 @@ constraint_keeps : (t : Tables) (c : Constraint) → Sound t → ConstraintIn (l
 constraint_keeps t c s k =
     let g : Grown t (add_constraint t c) = record { facts = omega arith; actions = omega arith; tasks = omega arith; same = λ i h. refl } in
     let more : SoundMethod (add_constraint t c) (last_method t) → SoundMethod (add_constraint t c) (constrained c (last_method t)) = λ w.
-        let cs = all_both (ConstraintIn (length t.facts) (arity t)) (last_method t).constraints (c ∷ []) w.constraints (k, tt) in grind (arith, cs) in
+    let cs = all_both (ConstraintIn (length t.facts) (arity t)) (last_method t).constraints (c ∷ []) w.constraints (k, tt) in grind (arith, cs) in
     let ways = all_last (SoundMethod (add_constraint t c)) (constrained c) no_method t.methods (methods_still t (add_constraint t c) g t.methods s.ways) more in
     grind (arith, length_last (constrained c) t.methods, ways)
 

@@ -1,13 +1,11 @@
 -- what a lookup by name finds, where the names are distinct
-use Rattle.std.proofs.Common.{◌≡◌, ℕ, zero, suc, ◌<◌, Bool, true, false, cond, List, [], ◌∷◌, ◌++◌, length, get_or, Some, None, Option, sym, refl, ap, ◌∙◌, subst, le_of_suc-le-suc, not-suc-le-zero, arith}
-use borrow.Author.Tests.{both_ways}
-use Rattle.std.specs.Str.{bytes_eq}
+use Rattle.std.proofs.Common.{◌≡◌, ℕ, zero, suc, ◌<◌, List, [], ◌∷◌, ◌++◌, length, get_or, Some, None, refl, subst, arith}
 use Rattle.std.proofs.lemmas.Slice.Eq.{bytes_eq-Decides}
 use Rattle.fields.specs.Text.{Bytes}
 use Rattle.theory.specs.Lists.{All}
 use Rattle.theory.specs.declared.Subtask.{Subtask}
 use Rattle.theory.specs.declared.Subtask.TheVariants.{Primitive, Compound}
-use Rattle.reading.specs.Tables.{Tables, action_names, task_names, next, index_of, or_task, task_of, symbol_of}
+use Rattle.reading.specs.Tables.{Tables, action_names, task_names, index_of, symbol_of}
 use Rattle.reading.specs.Declares.{Distinct, Names, IsSubtask}
 use Rattle.reading.proofs.Alls.{all-at, all_left, all_right, all_both}
 

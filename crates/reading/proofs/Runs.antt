@@ -1,18 +1,17 @@
 -- what holds over whole texts
-use Rattle.std.proofs.Common.{◌≡◌, ℕ, ◌+◌, ◌-◌, ◌^◌, ◌≤◌, min, T, List, [], ◌∷◌, ◌++◌, length, Some, None, Ok, Err, Option, sym, refl, ap, ◌∙◌, subst, arith}
-use Rattle.fields.specs.Text.{Bytes, fields, at}
+use Rattle.std.proofs.Common.{◌≡◌, ℕ, ◌+◌, ◌-◌, ◌^◌, ◌≤◌, min, T, List, [], ◌∷◌, ◌++◌, length, Ok, Err, sym, refl, ap, ◌∙◌, subst, arith}
+use Rattle.fields.specs.Text.{Bytes, fields}
 use Rattle.fields.specs.declared.faults.LineFault.TheVariants.{Letter}
 use Rattle.theory.specs.Lists.{All}
 use Rattle.reading.specs.declared.faults.DomainFault.{DomainFault}
 use Rattle.reading.specs.declared.faults.DomainFault.TheVariants.{Line}
 use Rattle.reading.specs.declared.faults.Fault.{Fault}
-use Rattle.reading.specs.declared.kinds.Kind.{Kind}
 use Rattle.reading.specs.declared.kinds.Section.{Section}
-use Rattle.reading.specs.declared.kinds.Section.TheVariants.{Facts, Actions, Tasks, Methods, Closed}
+use Rattle.reading.specs.declared.kinds.Section.TheVariants.{Closed}
 use Rattle.reading.specs.Tables.{Tables}
-use Rattle.reading.specs.Lines.{Check, ◌>>=◌, found}
+use Rattle.reading.specs.Lines.{Check, ◌>>=◌}
 use Rattle.reading.specs.Sound.{sound}
-use Rattle.reading.specs.Reading.{kind_of, group, declared, head, line, Reader, reading, refused, Answer, start, counted, fault_at, faulted, taken, reads, after_all, answers}
+use Rattle.reading.specs.Reading.{group, declared, head, line, Reader, reading, refused, Answer, start, counted, fault_at, faulted, taken, reads, after_all, answers}
 use Rattle.reading.specs.Laws.{ClosesWith, FirstFaultStays, letter_faults, ClosedStays, ClosedIsSound}
 use Rattle.reading.proofs.Checks.{bound, ok_eq, stop}
 use Rattle.reading.proofs.Keeps.{keeps}

@@ -1,7 +1,6 @@
 -- what each kind of line says, both ways
-use Rattle.std.proofs.Common.{◌≡◌, ℕ, zero, suc, ◌<◌, ◌≤◌, Bool, true, false, cond, ◌&&◌, T, eqb, ltb, leb, List, [], ◌∷◌, length, map, get_or, lt-ltb, Some, None, Ok, codes, Option, sym, refl, ap, ◌∙◌, subst, arith, le→leb, eqb→eq, ltb→lt, lt→ltb, leb→le, eq-eqb}
+use Rattle.std.proofs.Common.{◌≡◌, ℕ, suc, ◌<◌, ◌≤◌, Bool, ◌&&◌, T, eqb, ltb, leb, List, [], ◌∷◌, length, map, get_or, Some, Ok, codes, Option, sym, refl, ap, ◌∙◌, arith, ltb→lt}
 use lib.Bits.{bit_and}
-use lib.Ieee.Bits.{is_true}
 use Rattle.std.specs.List.{range_with_len}
 use Rattle.std.proofs.lemmas.Bool.Decides.{nat_tests}
 use Rattle.std.proofs.lemmas.List.FromFn.{fill_by_all}
@@ -21,7 +20,7 @@ use Rattle.reading.specs.Tables.{Tables, ActionEntry, TaskEntry, ranks, action_n
 use Rattle.reading.specs.Lines.{Check, ◌>>=◌, ◌>>◌, must, field, new_name, old_name, fact_set, subtask_list, last_method, arity, found, position_line}
 use Rattle.reading.specs.Reading.{kind_at, kind_of, group, allowed, field_count, declared, head, line}
 use Rattle.reading.specs.Declares.{Distinct, IsFact, IsAction, IsTask, IsPosition, IsConstraint, IsMethod, Block, Written}
-use Rattle.reading.proofs.Checks.{step, pass, bound, passed, got, ok_eq}
+use Rattle.reading.proofs.Checks.{bound, passed, ok_eq}
 use Rattle.reading.proofs.Lookups.{Fresh, index_names, names_index, none_fresh, fresh_none, symbols, none_symbol, symbol_none, distinct_right}
 use Rattle.reading.proofs.Fields.{new-said, said-new, old_said, said_old, number-said, said-number, mark-said, said-mark, set_said, said_set, subtasks-said, said-subtasks}
 use Rattle.theory.proofs.Rules.{rules_decided}

@@ -1,18 +1,13 @@
 -- tables pass the test exactly when they are sound
-use Rattle.std.proofs.Common.{ℕ, ◌≤◌, arith, ◌^◌, ◌<◌, T, ltb, leb, length}
+use Rattle.std.proofs.Common.{◌≤◌, arith, length}
 use Rattle.std.proofs.lemmas.Bool.Decides.{nat_tests}
 use lib.ListN.{length-map}
-use Rattle.theory.specs.Lists.{all}
 use Rattle.theory.specs.Model.{Method}
 use Rattle.theory.specs.Rules.{Decides}
-use Rattle.theory.specs.declared.Subtask.{Subtask}
-use Rattle.theory.specs.declared.Subtask.TheVariants.{Primitive, Compound}
-use Rattle.theory.specs.declared.Constraint.{Constraint}
-use Rattle.theory.specs.declared.Constraint.TheVariants.{Before, After, Between}
 use Rattle.theory.proofs.Lists.{all_decided}
 use Rattle.theory.proofs.Rules.{rules_decided}
-use Rattle.reading.specs.Tables.{Tables, ActionEntry, TaskEntry, rank, ranks}
-use Rattle.reading.specs.Sound.{SubtaskIn, ConstraintIn, SoundAction, SoundMethod, Sound, subtask_in, constraint_in, action_sound, task_sound, method_sound, fits, sound}
+use Rattle.reading.specs.Tables.{Tables, rank, ranks}
+use Rattle.reading.specs.Sound.{SubtaskIn, ConstraintIn, SoundAction, SoundMethod, Sound, subtask_in, constraint_in, action_sound, task_sound, method_sound, sound}
 
 method_decided : (t : Tables) (m : Method) → Decides (method_sound (length t.facts) (length t.actions) (ranks t) m) (SoundMethod t m)
 method_decided t m =
