@@ -73,60 +73,41 @@ folded_last : {A : Type 0} (acc xs : List A) → fold with_last acc xs ≡ acc +
 folded_last acc [] = sym (append-nil acc)
 folded_last acc (x ∷ xs) = folded_last (acc ++ x ∷ []) xs ∙ append_assoc acc (x ∷ []) xs
 
-module _ {A B : Type 0} (f : B → A → B) (find : Bytes → Option A) (g : DomainFault) where
-  abbrev Finds : Bytes → A → Type 0
-  Finds n x = find n ≡ Some x
-
-  taking-said : (acc : B) (ns : List Bytes) (y : B) → taking f find g acc ns ≡ Ok y → (xs : List A) × Each Finds ns xs × (fold f acc xs ≡ y)
-  taking-said acc [] y e = ([], tt, ok_eq e)
-  taking-said acc (n ∷ ns) y e =
+module _ {A B : Type 0} (f : B → A → B) (find : Bytes → Option A) (g : DomainFault) (S : Bytes → A → Type 0) where
+  taking-said : ((n : Bytes) (x : A) → find n ≡ Some x → S n x) → (acc : B) (ns : List Bytes) (y : B) → taking f find g acc ns ≡ Ok y → (xs : List A) × Each S ns xs × (fold f acc xs ≡ y)
+  taking-said is acc [] y e = ([], tt, ok_eq e)
+  taking-said is acc (n ∷ ns) y e =
       let a = bound (found (find n) g) _ y e in
-      let r = taking-said (f acc a.0) ns y a.2 in
-      (a.0 ∷ r.0, (got (find n) g a.0 a.1, r.1), r.2)
+      let r = taking-said is (f acc a.0) ns y a.2 in
+      (a.0 ∷ r.0, (is n a.0 (got (find n) g a.0 a.1), r.1), r.2)
 
-  said-taking : (acc : B) (ns : List Bytes) (xs : List A) → Each Finds ns xs → taking f find g acc ns ≡ Ok (fold f acc xs)
-  said-taking acc [] [] h = refl
-  said-taking acc [] (x ∷ xs) h = elim h [ ]
-  said-taking acc (n ∷ ns) [] h = elim h [ ]
-  said-taking acc (n ∷ ns) (x ∷ xs) h = step _ (ap (λ (o : Option A). found o g) h.0) (said-taking (f acc x) ns xs h.1)
+  said-taking : ((n : Bytes) (x : A) → S n x → find n ≡ Some x) → (acc : B) (ns : List Bytes) (xs : List A) → Each S ns xs → taking f find g acc ns ≡ Ok (fold f acc xs)
+  said-taking is acc [] [] h = refl
+  said-taking is acc [] (x ∷ xs) h = elim h [ ]
+  said-taking is acc (n ∷ ns) [] h = elim h [ ]
+  said-taking is acc (n ∷ ns) (x ∷ xs) h = step _ (ap (λ (o : Option A). found o g) (is n x h.0)) (said-taking is (f acc x) ns xs h.1)
 
 module _ (t : Tables) (fs : List Bytes) (k : ℕ) where
   pub set_said : (set : ℕ) → fact_set t fs k ≡ Ok set → IsFactSet t (at fs k) set
   set_said set e =
       let a = bound (field (list_in fs k)) _ set e in
       let b = list_said fs k a.0 a.1 in
-      let r = taking-said with_fact (fact_of t) (Undeclared k) 0 a.0 set a.2 in
-      let h = subst (λ (ns : List Bytes). Each (Finds with_fact (fact_of t) (Undeclared k)) ns r.0) (sym b.0) r.1 in
-      record {
-        names = b.1;
-        numbers = r.0;
-        named = each_map (Finds with_fact (fact_of t) (Undeclared k)) (Names t.facts) (λ n i e. index_names n t.facts i e) (items (at fs k)) r.0 h;
-        is = sym (folded_set 0 r.0) ∙ r.2;
-      }
+      let r = taking-said with_fact (fact_of t) (Undeclared k) (Names t.facts) (λ n i e. index_names n t.facts i e) 0 a.0 set a.2 in
+      grind (arith, b, r.1, r.2, folded_set 0 r.0)
 
   pub said_set : (set : ℕ) → Distinct t.facts → IsFactSet t (at fs k) set → fact_set t fs k ≡ Ok set
   said_set set d h =
       step _ (said_list fs k h.names)
-      (said-taking with_fact (fact_of t) (Undeclared k) 0 (items (at fs k)) h.numbers
-      (each_map (Names t.facts) (Finds with_fact (fact_of t) (Undeclared k)) (λ n i e. names_index n t.facts i d e) (items (at fs k)) h.numbers h.named)
-      ∙ ap Ok (folded_set 0 h.numbers ∙ h.is))
+      (said-taking with_fact (fact_of t) (Undeclared k) (Names t.facts) (λ n i e. names_index n t.facts i d e) 0 (items (at fs k)) h.numbers h.named ∙ ap Ok (folded_set 0 h.numbers ∙ h.is))
 
   pub subtasks-said : (ss : List Subtask) → subtask_list t fs k ≡ Ok ss → All (λ n. T (name_form n)) (items (at fs k)) × (length (items (at fs k)) ≤ 4) × Each (IsSubtask t) (items (at fs k)) ss
   subtasks-said ss e =
       let a = bound (field (short_list_in fs k 4)) _ ss e in
       let b = short-said fs k 4 a.0 a.1 in
-      let r = taking-said with_last (symbol_of t) (Undeclared k) [] a.0 ss a.2 in
-      let q = sym (folded_last [] r.0) ∙ r.2 in
-      let h = subst (λ (ns : List Bytes). Each (Finds with_last (symbol_of t) (Undeclared k)) ns r.0) (sym b.0) r.1 in (
-        b.1,
-        b.2,
-        subst (Each (IsSubtask t) (items (at fs k))) q
-            (each_map (Finds with_last (symbol_of t) (Undeclared k)) (IsSubtask t) (λ n s e. symbol_names_lem t n s e) (items (at fs k)) r.0 h),
-      )
+      let r = taking-said with_last (symbol_of t) (Undeclared k) (IsSubtask t) (symbol_names_lem t) [] a.0 ss a.2 in
+      grind (arith, b, r.1, r.2, folded_last [] r.0)
 
   pub said-subtasks : (ss : List Subtask) → Distinct (symbols t) → All (λ n. T (name_form n)) (items (at fs k)) → length (items (at fs k)) ≤ 4 → Each (IsSubtask t) (items (at fs k)) ss → subtask_list t fs k ≡ Ok ss
   said-subtasks ss d a l h =
       step _ (said-short fs k 4 a l)
-      (said-taking with_last (symbol_of t) (Undeclared k) [] (items (at fs k)) ss
-      (each_map (IsSubtask t) (Finds with_last (symbol_of t) (Undeclared k)) (λ n s e. names_symbol t n s d e) (items (at fs k)) ss h)
-      ∙ ap Ok (folded_last [] ss))
+      (said-taking with_last (symbol_of t) (Undeclared k) (IsSubtask t) (λ n s e. names_symbol t n s d e) [] (items (at fs k)) ss h ∙ ap Ok (folded_last [] ss))
