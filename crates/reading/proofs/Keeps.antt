@@ -45,8 +45,7 @@ fact_set-lt t f set h =
     (set_lt (length t.facts) 0 h.numbers (pow_pos (length t.facts)) (each_right (Names t.facts) (λ i. i < length t.facts) (λ n i k. k.0) (items f) h.numbers h.named))
 
 subtask_here : (t : Tables) (n : Bytes) (s : Subtask) → IsSubtask t n s → SubtaskIn (length t.actions) (length t.tasks) s
-subtask_here t n (Primitive a) h = simp length-map at h.0
-subtask_here t n (Compound j) h = simp length-map at h.0
+subtask_here t n s h = grind (arith, length-map t.actions (λ (a : ActionEntry). a.name), length-map t.tasks (λ (e : TaskEntry). e.name))
 
 -- tables that grew, and whose tasks keep their ranks
 record Grown (t u : Tables) : Type 0 where
@@ -107,11 +106,7 @@ module _ (t u : Tables) (fs : List Bytes) where
       let v : ActionEntry = record { name = n.0; needs = p.0; adds = a.0; deletes = x.0 } in
       let r = passed (ltb (length t.actions) 64) Full _ u x.2 in
       let b = passed (eqb (bit_and a.0 x.0) 0) Clash (Ok (add_action t v)) u r.1 in
-      let w : SoundAction (length t.facts) v = record {
-        needs = fact_set-lt t _ p.0 (set_said t fs 3 p.0 p.1);
-        adds = fact_set-lt t _ a.0 (set_said t fs 4 a.0 a.1);
-        deletes = fact_set-lt t _ x.0 (set_said t fs 5 x.0 x.1);
-      } in
+      let w : SoundAction (length t.facts) v = grind (arith, fact_set-lt t _ p.0 (set_said t fs 3 p.0 p.1), fact_set-lt t _ a.0 (set_said t fs 4 a.0 a.1), fact_set-lt t _ x.0 (set_said t fs 5 x.0 x.1)) in
       let g : Grown t (add_action t v) = record { facts = omega arith; actions = longer t.actions v; tasks = omega arith; same = λ i h. refl } in
       subst Sound (ok_eq b.1) (grind (arith, added t.actions v 64 r.0, all_both (SoundAction (length t.facts)) t.actions (v ∷ []) s.sets (w, tt), methods_still t (add_action t v) g t.methods s.ways))
 
@@ -122,12 +117,9 @@ module _ (t u : Tables) (fs : List Bytes) where
       let m = bound (field (mark_in fs 4)) _ u p.2 in
       let v : TaskEntry = record { name = n.0; level = p.0; vanish = m.0 } in
       let r = passed (ltb (length t.tasks) 48) Full (Ok (add_task t v)) u m.2 in
-      let g : Grown t (add_task t v) = record {
-        facts = omega arith;
-        actions = omega arith;
-        tasks = longer t.tasks v;
-        same = λ i h. ap (λ (ks : List Task). get_or ks i no_task) (map-append rank t.tasks (v ∷ [])) ∙ get_or-append (ranks t) (rank v ∷ []) no_task i (rw length-map h);
-      } in
+      let q = map-append rank t.tasks (v ∷ []) in
+      let k = get_or-append (ranks t) (rank v ∷ []) no_task in
+      let g : Grown t (add_task t v) = record { facts = omega arith; actions = omega arith; tasks = longer t.tasks v; same = λ i h. rw q (k i (rw length-map h)) } in
       let levels = all_both (λ (e : TaskEntry). e.level ≤ 7) t.tasks (v ∷ []) s.levels ((number-said fs 3 0 7 p.0 p.1).3, tt) in
       subst Sound (ok_eq r.1) (grind (arith, added t.tasks v 48 r.0, levels, methods_still t (add_task t v) g t.methods s.ways))
 
@@ -144,14 +136,9 @@ module _ (t u : Tables) (fs : List Bytes) where
       let z = subtasks-said t fs 5 ss.0 ss.1 in
       let rules = rules_decided (ranks t) o.0 ss.0 in
       let g : Grown t (add_method t v) = record { facts = omega arith; actions = omega arith; tasks = omega arith; same = λ i h. refl } in
-      let w : SoundMethod (add_method t v) v = record {
-        owner = simp length-map at (index_names _ (task_names t) o.0 (old_said fs 2 (task_of t) o.0 o.1).1).0;
-        subtasks = each_right (IsSubtask t) (SubtaskIn (length t.actions) (length t.tasks)) (subtask_here t) (items (at fs 5)) ss.0 z.2;
-        few = omega (arith, z.1, each_length (IsSubtask t) (items (at fs 5)) ss.0 z.2);
-        constraints = tt;
-        mark = rules.0.0 a.0;
-        ladder = rules.1.0 b.0;
-      } in
+      let i : o.0 < length t.tasks = simp length-map at (index_names _ (task_names t) o.0 (old_said fs 2 (task_of t) o.0 o.1).1).0 in
+      let ins = each_right (IsSubtask t) (SubtaskIn (length t.actions) (length t.tasks)) (subtask_here t) (items (at fs 5)) ss.0 z.2 in
+      let w : SoundMethod (add_method t v) v = grind (arith, i, ins, z.1, each_length (IsSubtask t) (items (at fs 5)) ss.0 z.2, rules.0.0 a.0, rules.1.0 b.0) in
       let ways = all_both (SoundMethod (add_method t v)) t.methods (v ∷ []) (methods_still t (add_method t v) g t.methods s.ways) (w, tt) in
       subst Sound (ok_eq b.1) (grind (arith, added t.methods v 128 r.0, ways))
 
