@@ -23,24 +23,19 @@ use Rattle.lines.specs.Took.{Took, new_symbol, old_fact, old_task, fact_set, sub
 use Rattle.lines.proofs.Closing.{closed_roomy}
 
 two : {A B R S : Type 0} (g : R → Check S) (f : A → B → R) (a : Check A) (b : Check B) → (a >>= λ x. b >>= λ y. g (f x y)) ≡ ((a >>= λ x. b >>= λ y. Ok (f x y)) >>= g)
-two g f (Err e) b = refl
-two g f (Ok x) (Err e) = refl
-two g f (Ok x) (Ok y) = refl
+two g f a b = grind arith
 
 three : {A B C R S : Type 0} (g : R → Check S) (f : A → B → C → R) (a : Check A) (b : Check B) (c d : A → Check C) → ((x : A) → c x ≡ d x)
     → (a >>= λ x. b >>= λ y. c x >>= λ z. g (f x y z)) ≡ ((a >>= λ x. b >>= λ y. d x >>= λ z. Ok (f x y z)) >>= g)
-three g f (Err e) b c d same = refl
-three g f (Ok x) b c d same = ap (λ w. b >>= λ y. w >>= λ z. g (f x y z)) (same x) ∙ two g (f x) b (d x)
+three g f a b c d same = grind (arith, same)
 
 four : {A B C D R S : Type 0} (g : R → Check S) (f : A → B → C → D → R) (a : Check A) (b : Check B) (c : Check C) (d : Check D)
     → (a >>= λ x. b >>= λ y. c >>= λ z. d >>= λ w. g (f x y z w)) ≡ ((a >>= λ x. b >>= λ y. c >>= λ z. d >>= λ w. Ok (f x y z w)) >>= g)
-four g f (Err e) b c d = refl
-four g f (Ok x) b c d = three g (f x) b c (λ y. d) (λ y. d) (λ y. refl)
+four g f a b c d = grind arith
 
 -- the rules, and then the entry
 rules : (p q : Check (Unit {0})) {A : Type 0} (x : Check A) → (p >> (q >> x)) ≡ ((p >> q) >> x)
-rules (Ok u) q x = refl
-rules (Err e) q x = refl
+rules p q x = grind arith
 
 module _ (t : Tables) (l : Line) where
   abbrev T : plain.Tables
@@ -141,9 +136,7 @@ module _ (t : Tables) (m : Held) (x : Check plain.Tables) where
 
 -- a fault passed up leaves the tables as they were
 pub took_up : (r : Result (Unit {0}) DomainFault) (t : Tables) (c : Check plain.Tables) (e : DomainFault) → (is_err r ≡ true) × IsErrAnd r (λ f. f ≡ e) → c ≡ Err e → closes t ≡ true → Took r t t c
-took_up (Ok x) t c e h q k = absurd (false≢true h.0)
-took_up (Err f) t c e h q k = (q ∙ ap (λ (g : DomainFault). Err g) (sym h.1), refl, closed_roomy t k)
+took_up r t c e h q k = grind (arith, closed_roomy t k)
 
 pub took_as : (r : Result (Unit {0}) DomainFault) (old new : Tables) {c d : Check plain.Tables} → c ≡ d → Took r old new d → Took r old new c
-took_as (Ok x) old new e h = (e ∙ h.0, h.1)
-took_as (Err f) old new e h = (e ∙ h.0, h.1, h.2)
+took_as r old new e h = grind arith

@@ -9,14 +9,6 @@ last_at f d (y ∷ z ∷ zs) x h e =
     let n : length (y ∷ z ∷ zs) - 1 ≡ suc (length (z ∷ zs) - 1) = omega arith in
     last_at f (f y) (z ∷ zs) x (omega arith) (e ∙ ap (λ (n : ℕ). get_or (y ∷ z ∷ zs) n x) n)
 
-pub last_none : {A B : Type 0} (f : A → B) (d : B) (xs : List A) → length xs ≡ 0 → last_or d (map f xs) ≡ d
-last_none f d [] h = refl
-last_none f d (x ∷ xs) h = absurd (omega arith)
-
-pub on_none : {A B : Type 0} (f : A → B) (g : B → B) (xs : List A) → length xs ≡ 0 → on_last g (map f xs) ≡ map f xs
-on_none f g [] h = refl
-on_none f g (x ∷ xs) h = absurd (omega arith)
-
 pub set_last : {A B : Type 0} (f : A → B) (g : B → B) (xs : List A) (i : ℕ) (y d : A) → length xs ≡ suc i → f y ≡ g (f (get_or xs i d)) → map f (set xs i y) ≡ on_last g (map f xs)
 set_last f g [] i y d h e = absurd (omega arith)
 set_last f g (x ∷ []) zero y d h e = ap (λ (z : _). z ∷ []) e

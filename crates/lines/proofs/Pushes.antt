@@ -1,5 +1,5 @@
 -- a line that puts an entry at the end of its table
-use Rattle.std.proofs.Common.{◌≡◌, List, [], ◌∷◌, ◌++◌, true, eqb, Ok, vec_items, vec_capacity, Vec, Global, sym, ap, ◌∙◌}
+use Rattle.std.proofs.Common.{◌≡◌, List, [], ◌∷◌, ◌++◌, true, eqb, Ok, vec_items, vec_capacity, arith, Vec, Global, sym, ap, ◌∙◌}
 use lib.Bits.{bit_and}
 use Rattle.fields.specs.Held.{name_text, line_fields}
 use Rattle.fields.specs.Text.{Bytes}
@@ -20,7 +20,7 @@ use Rattle.lines.specs.declared.filled.Tables.{Tables}
 use Rattle.lines.specs.Closes.{meant, closes}
 use Rattle.lines.specs.Entries.{action_in, task_in, method_in, rules_for}
 use Rattle.lines.specs.Took.{Declares, new_fact}
-use Rattle.lines.proofs.Closing.{took_closed, room-facts, room-actions, room-tasks, room-methods}
+use Rattle.lines.proofs.Closing.{closed_roomy, took_closed}
 use Rattle.lines.proofs.Entries.{action_goes, task_goes, method_goes, rules-kept}
 use Rattle.lines.proofs.Rooms.{room_goes, pushed}
 
@@ -43,7 +43,7 @@ module _ (t : Tables) (l : Line) (ok : closes t ≡ true) where
   fact_took v x xs n r e p = taken (record { facts = v; actions = t.actions; tasks = t.tasks; methods = t.methods }) kind.Fact (
     step _ (sym n) (room_goes name_text (vec_items t.facts) xs 64 _ r e
         ∙ ap (λ (ns : List Bytes). Ok (record { facts = ns; actions = (meant t).actions; tasks = (meant t).tasks; methods = (meant t).methods })) (sym (pushed name_text (vec_items t.facts) (vec_items v) x p.items))),
-    room-facts t (vec_capacity v) p.capacity ok,
+    grind (arith, p.capacity, closed_roomy t ok),
   )
 
   pub action_took : (v : Vec Action Global) (x : Action) (xs : List Action) → Ok (action_entry x) ≡ action_in t l → Ok tt ≡ room 64 xs → xs ≡ vec_items t.actions
@@ -52,7 +52,7 @@ module _ (t : Tables) (l : Line) (ok : closes t ≡ true) where
   action_took v x xs n r e z p = taken (record { facts = t.facts; actions = v; tasks = t.tasks; methods = t.methods }) kind.Action (
     action_goes t l n (room_goes action_entry (vec_items t.actions) xs 64 _ r e
         ∙ pass Clash z (ap (λ (es : List ActionEntry). Ok (record { facts = (meant t).facts; actions = es; tasks = (meant t).tasks; methods = (meant t).methods })) (sym (pushed action_entry (vec_items t.actions) (vec_items v) x p.items)))),
-    room-actions t (vec_capacity v) p.capacity ok,
+    grind (arith, p.capacity, closed_roomy t ok),
   )
 
   pub task_took : (v : Vec Task Global) (x : Task) (xs : List Task) → Ok (task_entry x) ≡ task_in t l → Ok tt ≡ room 48 xs → xs ≡ vec_items t.tasks → Pushed t.tasks v x
@@ -60,7 +60,7 @@ module _ (t : Tables) (l : Line) (ok : closes t ≡ true) where
   task_took v x xs n r e p = taken (record { facts = t.facts; actions = t.actions; tasks = v; methods = t.methods }) kind.Task (
     task_goes t l n (room_goes task_entry (vec_items t.tasks) xs 48 _ r e
         ∙ ap (λ (es : List TaskEntry). Ok (record { facts = (meant t).facts; actions = (meant t).actions; tasks = es; methods = (meant t).methods })) (sym (pushed task_entry (vec_items t.tasks) (vec_items v) x p.items))),
-    room-tasks t (vec_capacity v) p.capacity ok,
+    grind (arith, p.capacity, closed_roomy t ok),
   )
 
   pub method_took : (v : Vec Method Global) (x : Method) (xs : List Method) → Ok (method_entry x) ≡ method_in t l → Ok tt ≡ room 128 xs → xs ≡ vec_items t.methods
@@ -70,5 +70,5 @@ module _ (t : Tables) (l : Line) (ok : closes t ≡ true) where
     method_goes t l n (room_goes method_entry (vec_items t.methods) xs 128 _ r e
         ∙ rules-kept t x (Ok (add_method (meant t) (method_entry x))) k
         ∙ ap (λ (ms : List Way). Ok (record { facts = (meant t).facts; actions = (meant t).actions; tasks = (meant t).tasks; methods = ms })) (sym (pushed method_entry (vec_items t.methods) (vec_items v) x p.items))),
-    room-methods t (vec_capacity v) p.capacity ok,
+    grind (arith, p.capacity, closed_roomy t ok),
   )

@@ -1,5 +1,6 @@
 -- a list of names read from the left
 use Rattle.std.proofs.Common.{◌≡◌, ℕ, ◌<◌, ◌≤◌, Bool, true, false, cond, T, ltb, leb, List, [], ◌∷◌, length, Some, None, Ok, Err, Option, refl, ap, ◌∙◌, arith, leb→le, lt-ltb}
+use Rattle.std.proofs.lemmas.Bool.Decides.{nat_tests}
 use Rattle.theory.specs.Lists.{all}
 use Rattle.fields.specs.Read.{Read, short_list_in, not_form, not_in_range}
 use Rattle.fields.specs.Text.{Bytes, at, items, name_form}
@@ -21,28 +22,15 @@ module _ {A B : Type 0} (step : B → A → B) (find : Bytes → Option A) (e : 
 
 -- a short list is short
 pub short_len : (fs : List Bytes) (k most : ℕ) (ns : List Bytes) → Ok ns ≡ short_list_in fs k most → length ns ≤ most
-short_len fs k most ns e = go (all name_form (items (at fs k))) (leb (length (items (at fs k))) most) (leb→le _ _) e
-  where
-    go : (a b : Bool) → (T b → length (items (at fs k)) ≤ most) → ◌≡◌ {A = Read (List Bytes)} (Ok ns) (cond a (cond b (Ok (items (at fs k))) (not_in_range k)) (not_form k)) → length ns ≤ most
-    go true true h e = let q : ns ≡ items (at fs k) = cc in let l = ap length q in let m = h tt in omega arith
-    go true false h e = absurd cc
-    go false b h e = absurd cc
+short_len fs k most ns e = grind (arith, nat_tests)
 
 -- an element put at the end of a short list, where there was room
 module _ {A : Type 0} (b : Bool) (xs : List A) where
   pub with_some : (ys : List A) → Some ys ≡ cond b (Some xs) None → (ys ≡ xs) × (b ≡ true)
-  with_some ys e = go b e
-    where
-      go : (b : Bool) → Some ys ≡ cond b (Some xs) None → (ys ≡ xs) × (b ≡ true)
-      go true e = (cc, refl)
-      go false e = absurd cc
+  with_some ys e = grind arith
 
   pub with_none : None ≡ cond b (Some xs) None → b ≡ false
-  with_none e = go b e
-    where
-      go : (b : Bool) → None ≡ cond b (Some xs) None → b ≡ false
-      go true e = absurd cc
-      go false e = refl
+  with_none e = grind arith
 
 pub with_room : {A : Type 0} (xs : List A) (x : A) → length xs < 4 → cond (ltb (length xs) 4) (with_last xs x) xs ≡ with_last xs x
 with_room xs x h = ap (λ (b : Bool). cond b (with_last xs x) xs) (lt-ltb _ _ h)
