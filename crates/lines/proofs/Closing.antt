@@ -1,9 +1,6 @@
 -- from the test that a domain's type carries to the facts, and back
-use Rattle.std.proofs.Common.{arith, ◌≡◌, ℕ, Bool, true, false, ◌&&◌, T, leb, List, Ok, Err, vec_capacity, Result, sym, refl, ap, ◌∙◌, subst}
-use lib.Ieee.Bits.{is_true}
-use Rattle.std.proofs.lemmas.Float.{T_from_true}
+use Rattle.std.proofs.Common.{arith, ◌≡◌, true, T, List, Ok, Err, Result, sym, subst}
 use Rattle.fields.specs.Text.{Bytes}
-use Rattle.theory.proofs.Lists.{and_both, both-and}
 use Rattle.reading.specs.Sound.{Sound, sound}
 use Rattle.reading.specs.Reading.{declared}
 use Rattle.reading.specs.Tables as plain

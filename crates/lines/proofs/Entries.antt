@@ -1,6 +1,5 @@
 -- a line in two parts: the fields that it reads, and what is checked of what they read
 use Rattle.std.proofs.Common.{◌≡◌, ℕ, suc, ◌+◌, true, eqb, [], is_err, IsErrAnd, Ok, Err, vec_items, Result, sym, refl, ap, ◌∙◌, add-one, arith}
-use mathlib.Core.Bool.{false≢true}
 use lib.Bits.{bit_and}
 use Rattle.fields.specs.Held.{line_fields}
 use Rattle.fields.specs.Read.{number_in, mark_in}
@@ -96,8 +95,7 @@ module _ (t : Tables) (l : Line) where
       placed_stop {e} h = position-stop (go (position_in t l) h)
         where
           go : (p : Check (ℕ × ℕ)) → placed p Makes (Err e) → Err e ≡ p
-          go (Err g) h = let x = h in let q : e ≡ g = cc in ap (λ (f : DomainFault). Err f) q
-          go (Ok (j, f)) h = let x = h.2 in absurd cc
+          go p h = grind arith
 
       pub placed_goes : ((j f : ℕ) (c : Constraint) → Makes j f c → c ≡ constraint j f) → (c : Constraint) → Placed t l Makes (Ok c)
           → position_line constraint T (line_fields l) ≡ constrain T c

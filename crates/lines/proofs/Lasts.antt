@@ -11,12 +11,12 @@ last_at f d (y ∷ z ∷ zs) x h e =
 
 pub set_last : {A B : Type 0} (f : A → B) (g : B → B) (xs : List A) (i : ℕ) (y d : A) → length xs ≡ suc i → f y ≡ g (f (get_or xs i d)) → map f (set xs i y) ≡ on_last g (map f xs)
 set_last f g [] i y d h e = absurd (omega arith)
-set_last f g (x ∷ []) zero y d h e = ap (λ (z : _). z ∷ []) e
+set_last f g (x ∷ []) zero y d h e = rw e refl
 set_last f g (x ∷ []) (suc i) y d h e = absurd (omega arith)
 set_last f g (x ∷ z ∷ zs) zero y d h e = absurd (omega arith)
 set_last f g (x ∷ z ∷ zs) (suc i) y d h e = ap (λ (ws : List _). f x ∷ ws) (set_last f g (z ∷ zs) i y d (omega arith) e)
 
 pub set_same : {A B : Type 0} (f : A → B) (xs : List A) (i : ℕ) (y d : A) → f y ≡ f (get_or xs i d) → map f (set xs i y) ≡ map f xs
 set_same f [] i y d e = refl
-set_same f (x ∷ xs) zero y d e = ap (λ (z : _). z ∷ map f xs) e
+set_same f (x ∷ xs) zero y d e = rw e refl
 set_same f (x ∷ xs) (suc i) y d e = ap (λ (ws : List _). f x ∷ ws) (set_same f xs i y d e)

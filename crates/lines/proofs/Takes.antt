@@ -1,9 +1,8 @@
 -- a list of names read from the left
-use Rattle.std.proofs.Common.{◌≡◌, ℕ, ◌<◌, ◌≤◌, Bool, true, false, cond, T, ltb, leb, List, [], ◌∷◌, length, Some, None, Ok, Err, Option, refl, ap, ◌∙◌, arith, leb→le, lt-ltb}
+use Rattle.std.proofs.Common.{◌≡◌, ℕ, ◌<◌, ◌≤◌, Bool, true, false, cond, ltb, List, [], ◌∷◌, length, Some, None, Ok, Err, Option, ap, ◌∙◌, arith, lt-ltb}
 use Rattle.std.proofs.lemmas.Bool.Decides.{nat_tests}
-use Rattle.theory.specs.Lists.{all}
-use Rattle.fields.specs.Read.{Read, short_list_in, not_form, not_in_range}
-use Rattle.fields.specs.Text.{Bytes, at, items, name_form}
+use Rattle.fields.specs.Read.{short_list_in}
+use Rattle.fields.specs.Text.{Bytes}
 use Rattle.reading.specs.Lines.{Check, ◌>>=◌, found, taking, with_last}
 use Rattle.reading.specs.declared.faults.DomainFault.{DomainFault}
 
