@@ -1,6 +1,5 @@
 -- one step of the reader, from its parts
-use Rattle.std.proofs.Common.{◌≡◌, true, List, is_err, IsErrAnd, Ok, Err, Result, sym, ap, ◌∙◌}
-use mathlib.Core.Bool.{false≢true}
+use Rattle.std.proofs.Common.{arith, ◌≡◌, true, List, is_err, IsErrAnd, Ok, Err, Result, sym, ap, ◌∙◌}
 use Rattle.fields.specs.Text.{Bytes, fields}
 use Rattle.reading.specs.Lines.{Check}
 use Rattle.reading.specs.Reading.{declared, group, head, line}
@@ -16,8 +15,7 @@ use Rattle.domain.specs.declared.reader.Reader.{Reader}
 -- a fault passed up: what it was turned into, and that nothing has changed
 pub taken_err : (r : Result (Unit {0}) DomainFault) (old new : Reader) (c : Check (Section × Tables)) (P : DomainFault → Type 0) → (is_err r ≡ true) × IsErrAnd r P → ((e : DomainFault) → P e → c ≡ Err e)
     → new.section ≡ old.section → domain_tables new.domain ≡ domain_tables old.domain → Beside old new → Taken r old new c
-taken_err (Ok x) old new c P h q s d b = absurd (false≢true h.0)
-taken_err (Err e) old new c P h q s d b = (q e h.1, s, d, b)
+taken_err r old new c P h q s d b = grind arith
 
 module _ (s : Section) (t : Tables) (l : Bytes) where
   pub line-head : (e : DomainFault) → head s l ≡ Err e → line s t l ≡ Err e

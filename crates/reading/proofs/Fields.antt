@@ -1,5 +1,5 @@
 -- what a field says, both ways
-use Rattle.std.proofs.Common.{◌≡◌, ℕ, ◌≤◌, Bool, true, false, T, List, [], ◌∷◌, ◌++◌, length, Some, None, Ok, Option, sym, refl, ap, ◌∙◌, subst, append_assoc, append-nil, arith}
+use Rattle.std.proofs.Common.{◌≡◌, ℕ, ◌≤◌, Bool, true, false, T, List, [], ◌∷◌, ◌++◌, length, Some, None, Ok, Option, sym, refl, ap, ◌∙◌, append_assoc, append-nil, arith}
 use Rattle.std.specs.List.{fold}
 use Rattle.std.proofs.lemmas.Bool.Decides.{nat_tests}
 use Rattle.fields.specs.Text.{Bytes, at, name_form, only, items}
@@ -14,7 +14,6 @@ use Rattle.reading.specs.Tables.{Tables, fact_of, symbol_of}
 use Rattle.reading.specs.Lines.{found, field, new_name, old_name, taking, with_fact, with_last, fact_set, subtask_list}
 use Rattle.reading.specs.Declares.{Each, Distinct, Names, IsNumber, IsMark, set_of, IsFactSet, IsSubtask}
 use Rattle.reading.proofs.Checks.{step, bound, got, ok_eq}
-use Rattle.reading.proofs.Alls.{each_map}
 use Rattle.reading.proofs.Lookups.{index_names, names_index, symbol_names_lem, names_symbol, symbols}
 
 names_all : (ns : List Bytes) → Decides (all name_form ns) (All (λ n. T (name_form n)) ns)

@@ -1,5 +1,5 @@
 -- a line that is accepted keeps the tables sound
-use Rattle.std.proofs.Common.{◌≡◌, ℕ, suc, ◌^◌, ◌<◌, ◌≤◌, T, eqb, ltb, List, [], ◌∷◌, ◌++◌, length, get_or, Ok, sym, refl, ap, ◌∙◌, subst, arith, ltb→lt, length-append, pow_pos, pow_mono}
+use Rattle.std.proofs.Common.{◌≡◌, ℕ, suc, ◌^◌, ◌<◌, ◌≤◌, T, eqb, ltb, List, [], ◌∷◌, ◌++◌, length, get_or, Ok, sym, refl, ap, subst, arith, ltb→lt, length-append, pow_pos, pow_mono}
 use mathlib.Core.List.{map-append}
 use lib.Bits.{bit_and, or_lt}
 use lib.ListN.{length-map, get_or-append}

@@ -9,7 +9,7 @@ use Rattle.reading.specs.declared.faults.Fault.{Fault}
 use Rattle.reading.specs.declared.kinds.Section.{Section}
 use Rattle.reading.specs.declared.kinds.Section.TheVariants.{Closed}
 use Rattle.reading.specs.Tables.{Tables}
-use Rattle.reading.specs.Lines.{Check, ◌>>=◌}
+use Rattle.reading.specs.Lines.{Check}
 use Rattle.reading.specs.Sound.{sound}
 use Rattle.reading.specs.Reading.{group, declared, head, line, Reader, reading, refused, Answer, start, counted, fault_at, faulted, taken, reads, after_all, answers}
 use Rattle.reading.specs.Laws.{ClosesWith, FirstFaultStays, letter_faults, ClosedStays, ClosedIsSound}
@@ -29,7 +29,7 @@ taken_refused : (s : Section) (t : Tables) (n : ℕ) (x : Check (Section × Tabl
 taken_refused s t n x f o e = grind (arith, faulted_open s t n)
 
 refuses : (r : Reader) (l : Bytes) (f : Fault) → ((t : Tables) (n : ℕ) → r ≡ reading Closed t n → ⊥) → (reads r l).0 ≡ Err f → (reads r l).1 ≡ refused f
-refuses (reading s t n) l f o e = taken_refused s t (counted n) (line s t l) f (λ q. o t n (ap (λ (s : Section). reading s t n) q)) e
+refuses (reading s t n) l f o e = taken_refused s t (counted n) (line s t l) f (λ q. o t n (cc q)) e
 refuses (refused g) l f o e = cc
 
 pub first_fault_stays : FirstFaultStays
@@ -41,7 +41,7 @@ closed_head : (l : Bytes) → head Closed l ≡ Err (Line Letter)
 closed_head l = grind arith
 
 closed_line : (t : Tables) (l : Bytes) → line Closed t l ≡ Err (Line Letter)
-closed_line t l = stop (λ c. declared c t (fields l) >>= (λ u. Ok (group c, u))) (closed_head l)
+closed_line t l = stop _ (closed_head l)
 
 -- the largest number that a count reaches
 abbrev most : ℕ
@@ -75,8 +75,7 @@ module _ (t : Tables) (n : ℕ) (h : T (sound t)) where
   stands-faulted s d = grind arith
 
   stands-taken : (s : Section) (x : Check (Section × Tables)) → ((r : Section × Tables) → x ≡ Ok r → T (sound r.1)) → Stands n (taken s t n x).1
-  stands-taken s (Ok (r, u)) k = (refl, k (r, u) refl)
-  stands-taken s (Err d) k = stands-faulted s d
+  stands-taken s x k = grind (arith, stands-faulted s)
 
 stands-reads : (n : ℕ) (r : Reader) (l : Bytes) → Stands n r → Stands (counted n) (reads r l).1
 stands-reads n (reading s t k) l (e, h) =

@@ -90,13 +90,8 @@ module _ (s : Section) (t : Tables) (l : Bytes) (v : Tables) where
   fact-said d =
       let n = bound (new_name (fact_of t) (fields l) 2) _ v d.said in
       let r = passed (ltb (length t.facts) 64) Full _ v n.2 in
-      let k = new-said (fields l) 2 (fact_of t) n.0 n.1 in (
-        at (fields l) 2,
-        ((row 1 kind.Fact (fields l) d.count d.letter, d.short), k.1),
-        none_fresh _ t.facts k.2,
-        ltb→lt _ _ r.0,
-        ap (add_fact t) k.0 ∙ ok_eq r.1,
-      )
+      let k = new-said (fields l) 2 (fact_of t) n.0 n.1 in
+      (at (fields l) 2, ((row 1 kind.Fact (fields l) d.count d.letter, d.short), k.1), none_fresh _ t.facts k.2, ltb→lt _ _ r.0, ap (add_fact t) k.0 ∙ ok_eq r.1)
 
   pub action_said : Lined s t l kind.Action v → (a : ActionEntry) × IsAction t l a × Fresh a.name (symbols t) × (length t.actions < 64) × (add_action t a ≡ v)
   action_said d =
