@@ -1,4 +1,4 @@
-use Rattle.std.proofs.Common.{◌≡◌, ℕ, Bool, true, false, Some, None, Option, option_map, sym, refl, ap, ◌∙◌}
+use Rattle.std.proofs.Common.{◌≡◌, ℕ, Bool, true, false, Option, option_map, refl, arith}
 use Rattle.theory.specs.Algebra.{Algebra, Weights}
 use Rattle.theory.specs.Tallies.{UpTo as Number}
 use Rattle.tally.specs.declared.numbers.UpTo.{UpTo}
@@ -13,7 +13,7 @@ stands : {S V M : Type 0} {A : Algebra M} {w : Weights M} (means : V → M) (bac
 stands means back there again = record {
   algebra_is = refl;
   weights_are = λ s. refl;
-  one_to_one = λ x y p. sym (there x) ∙ ap back p ∙ there y;
+  one_to_one = λ x y p. cc (there x, there y);
   each = λ m. (back m, again m);
 }
 
@@ -22,30 +22,17 @@ abbrev answer : Bool → Answer
 answer true = Yes
 answer false = No
 
-answer-there : (x : Answer) → answer (is_yes x) ≡ x
-answer-there No = refl
-answer-there Yes = refl
+abbrev held : {n : ℕ} → Number n → UpTo n
+held m = record { value = m.value; within = m.within }
 
-answer_back : (m : Bool) → is_yes (answer m) ≡ m
-answer_back true = refl
-answer_back false = refl
-
-module _ {n : ℕ} where
-  abbrev held : Number n → UpTo n
-  held m = record { value = m.value; within = m.within }
-
-  there : (x : Option (UpTo n)) → option_map held (number_or_none x) ≡ x
-  there None = refl
-  there (Some x) = refl
-
-  back : (m : Option (Number n)) → number_or_none (option_map held m) ≡ m
-  back None = refl
-  back (Some m) = refl
+-- what undoes a function on values undoes it where there may be none
+undone : {A B : Type 0} (f : A → B) (g : B → A) → ((x : A) → g (f x) ≡ x) → (o : Option A) → option_map g (option_map f o) ≡ o
+undone f g h o = grind (arith, h)
 
 pub four_tallies : FourTallies
 four_tallies = record {
-  verdict = stands is_yes answer answer-there answer_back;
+  verdict = stands is_yes answer (λ x. grind arith) (λ m. grind arith);
   count = stands number held (λ x. refl) (λ m. refl);
-  price = stands number_or_none (option_map held) there back;
-  grade = stands number_or_none (option_map held) there back;
+  price = stands number_or_none (option_map held) (undone number held (λ x. refl)) (undone held number (λ m. refl));
+  grade = stands number_or_none (option_map held) (undone number held (λ x. refl)) (undone held number (λ m. refl));
 }

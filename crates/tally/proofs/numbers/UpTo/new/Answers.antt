@@ -1,7 +1,6 @@
 use Rattle.std.proofs.Common.{arith}
-use Rattle.std.proofs.lemmas.Grind.{common_steps}
 use Rattle.theory.proofs.Tallies.{same}
 use Rattle.tally.proofs.numbers.UpTo.new.Goals as goal
 
 pub returns : goal.returns
-returns g c = same _ _ (grind (arith, common_steps))
+returns g c = same _ _ (grind arith)
