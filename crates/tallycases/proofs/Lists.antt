@@ -1,20 +1,20 @@
 -- What a fold over a slice comes to, where each call joins one more value.
-use Rattle.std.proofs.Common.{◌≡◌, List, [], ◌∷◌, ◌++◌, map, Bor, Iter, sym, ap, ◌∙◌}
+use Rattle.std.proofs.Common.{◌≡◌, List, [], ◌∷◌, ◌++◌, map, Bor, Iter}
+use mathlib.Core.List.{map-append}
 use denote.Param.Members.{Mut}
 use Rattle.std.specs.Fn.{Called}
 use Rattle.std.specs.Iterator.{Drains}
 use Rattle.std.specs.List.{FoldsTo}
 use Rattle.std.proofs.lemmas.Fn.{fold_over, fronts, slice_gives}
 use Rattle.theory.specs.Algebra.{joined}
+use Rattle.theory.proofs.Sums.{Monoid, joined-append}
 
-module _ {V M : Type 0} (means : V → M) (join : M → M → M) (neutral : M)
-    (assoc : (x y z : M) → join (join x y) z ≡ join x (join y z)) (left : (x : M) → join neutral x ≡ x) (right : (x : M) → join x neutral ≡ x) where
+module _ {V M : Type 0} (means : V → M) {join : M → M → M} {neutral : M} (monoid : Monoid join neutral) where
   abbrev total : List V → M
   total ys = joined join neutral (map means ys)
 
   push : (ys : List V) (x : V) → total (ys ++ (x ∷ [])) ≡ join (total ys) (means x)
-  push [] x = right (means x) ∙ sym (left (means x))
-  push (y ∷ ys) x = ap (join (means y)) (push ys x) ∙ sym (assoc (means y) (total ys) (means x))
+  push ys x = simp (map-append, joined-append monoid, monoid.right)
 
   pub fold_joins : {F : Type 0} (g : Mut F (V × (Bor V × Unit {0})) V) (f : F)
       → ((a : V) (x : Bor V) (b : V) (f' : F) → Called g f (a, (x, tt)) b f' → (means b ≡ join (means a) (means x.now)) × (f' ≡ f))
@@ -23,5 +23,5 @@ module _ {V M : Type 0} (means : V → M) (join : M → M → M) (neutral : M)
       → means r ≡ joined join neutral (map means s.rest.now)
   fold_joins g f step s a r =
       fold_over fronts (λ y. y.now) g (λ ys a. means a ≡ total ys) f
-      (λ ys a x b f' kept called. let one = step a x b f' called in (one.0 ∙ ap (λ k. join k (means x.now)) kept ∙ sym (push ys x.now), one.1))
+      (λ ys a x b f' kept called. let one = step a x b f' called in (cc (push ys x.now), one.1))
       s s.rest.now a r (slice_gives s)

@@ -1,10 +1,9 @@
 use Rattle.std.proofs.Common.{ap, ◌∙◌}
-use Rattle.theory.proofs.Tallies.{sum_pairs}
+use mathlib.Core.List.{map-map}
+use Rattle.theory.proofs.Tallies.{parts}
 use Rattle.tallycases.proofs.sums.pair_sum.Goals as goal
 
 pub returns : goal.returns
 returns g c =
-    let a = g.A.Tally in
-    let b = g.B.Tally in
-    let apart = c.sum.ensures ∙ sum_pairs a.algebra b.algebra (λ v. a.means v.0) (λ v. b.means v.1) c.args.values.now in
+    let apart = simp map-map at (c.sum.ensures ∙ (parts g.A.Tally.algebra g.B.Tally.algebra).sum_parts _) in
     record { first = ap (λ x. x.0) apart; second = ap (λ x. x.1) apart }

@@ -1,11 +1,9 @@
-use Rattle.std.proofs.Common.{ap, ◌∙◌, rules}
-use Rattle.tallycases.specs.Lists.{sum_of}
+use Rattle.std.proofs.Common.{rules}
+use Rattle.theory.proofs.Sums.{sum_monoid}
 use Rattle.tallycases.proofs.Lists.{fold_joins}
 use Rattle.tallycases.proofs.sums.sum.Goals as goal
 
 pub returns : goal.returns
 returns g c =
     let m = g.T.Tally in
-    let l = m.laws in
-    fold_joins m.means m.algebra.plus m.algebra.zero l.plus_assoc l.zero_plus l.plus_zero _ _ (λ a x b f called. (search rules, search rules)) c.iter.result _ _ c.zero.ensures c.fold.ensures.ran
-    ∙ ap (sum_of m.algebra m.means) c.iter.ensures.rest
+    cc (fold_joins m.means (sum_monoid m.algebra m.laws) _ _ (λ a x b f called. (search rules, search rules)) _ _ _ c.zero.ensures c.fold.ensures.ran)
