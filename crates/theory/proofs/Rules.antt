@@ -14,24 +14,28 @@ module _ (tasks : List Task) where
   all_vanish = all_decided (vanishes tasks) (Vanishing tasks) decided
 
   -- the flag tells that all before the list may vanish
-  ladder_kept : (n : ℕ) (pre : Bool) (us : List Subtask) (t : ℕ) (vs : List Subtask) → T pre → T (rungs tasks n pre (us ++ (Compound t ∷ vs)))
-      → All (Vanishing tasks) us → All (Vanishing tasks) vs → level_of tasks t < n
+  ladder_kept : (n : ℕ) (pre : Bool) (us : List Subtask) (t : ℕ) (vs : List Subtask)
+      → T pre → T (rungs tasks n pre (us ++ (Compound t ∷ vs))) → All (Vanishing tasks) us → All (Vanishing tasks) vs → level_of tasks t < n
   ladder_kept n pre [] t vs p h a b = grind (arith, all_vanish vs)
-  ladder_kept n pre (u ∷ us) t vs p h a b = ladder_kept n (pre && vanishes tasks u) us t vs (grind (arith, decided u)) (and_both _ _ h).1 a.1 b
+  ladder_kept n pre (u ∷ us) t vs p h a b =
+      ladder_kept n (pre && vanishes tasks u) us t vs (grind (arith, decided u)) (and_both _ _ h).1 a.1 b
 
   -- the rule of a list, where the flag tells that all before it may vanish
   abbrev Kept : ℕ → Bool → List Subtask → Type 0
-  Kept n pre ss = T pre → (us : List Subtask) (t : ℕ) (vs : List Subtask) → ss ≡ us ++ (Compound t ∷ vs) → All (Vanishing tasks) us → All (Vanishing tasks) vs → level_of tasks t < n
+  Kept n pre ss =
+      T pre → (us : List Subtask) (t : ℕ) (vs : List Subtask) → ss ≡ us ++ (Compound t ∷ vs)
+      → All (Vanishing tasks) us → All (Vanishing tasks) vs → level_of tasks t < n
 
-  rung-tested : (n : ℕ) (pre : Bool) (s : Subtask) (ss : List Subtask) → (T pre → (t : ℕ) → s ≡ Compound t → All (Vanishing tasks) ss → level_of tasks t < n) → T (rung tasks n pre s ss)
+  rung-tested : (n : ℕ) (pre : Bool) (s : Subtask) (ss : List Subtask)
+      → (T pre → (t : ℕ) → s ≡ Compound t → All (Vanishing tasks) ss → level_of tasks t < n) → T (rung tasks n pre s ss)
   rung-tested n pre s ss h = grind (arith, all_vanish ss)
 
   ladder-tested : (n : ℕ) (pre : Bool) (ss : List Subtask) → Kept n pre ss → T (rungs tasks n pre ss)
   ladder-tested n pre [] h = tt
   ladder-tested n pre (s ∷ ss) h =
-      both-and _ _ (rung-tested n pre s ss (λ p t e. h p [] t ss (cc) tt))
-      (ladder-tested n (pre && vanishes tasks s) ss (λ q us t vs e a b. let r = and_both pre (vanishes tasks s) q in
-      h r.0 (s ∷ us) t vs (cc) ((decided s).0 r.1, a) b))
+      let kept : Kept n (pre && vanishes tasks s) ss =
+      λ p us t vs e a b. h (and_both _ _ p).0 (s ∷ us) t vs (cc) ((decided s).0 (and_both pre _ p).1, a) b in
+      both-and _ _ (rung-tested n pre s ss (λ p t e. h p [] t ss (cc) tt)) (ladder-tested n (pre && vanishes tasks s) ss kept)
 
 pub rules_decided : RulesDecided
 rules_decided tasks owner ss = (
