@@ -1,4 +1,5 @@
 pub mod Faults
+pub mod Told
 pub mod Tables
 pub mod Lines
 pub mod Reading

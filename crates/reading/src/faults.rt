@@ -2,6 +2,8 @@ ghost use Rattle.std.specs.Prelude.{◌≡◌, Some};
 ghost use Rattle.fields.specs.declared.faults.LineFault.TheVariants.{Field};
 ghost use Rattle.reading.specs.declared.faults.DomainFault.TheVariants.{Line};
 ghost use Rattle.reading.specs.Faults.{fault_text, reported};
+ghost use Rattle.reading.specs.Faults as plain;
+ghost use Rattle.reading.specs.Told.{told};
 
 use fields::{FieldCause, FieldFault, LineFault};
 use std::fmt;
@@ -48,49 +50,64 @@ pub struct Fault {
     pub line: usize,
 }
 
-// The number, the layer and the field are numbers, since the format of a refusal fixes the numbers that are printed.
+// What a refusal is reported with. They are numbers, since the format of a refusal fixes the numbers that are printed.
+#[derive(Clone, Copy)]
+struct Report {
+    number: u8,
+    layer: u8,
+    field: usize,
+}
+
+impl Report {
+    fn new(number: u8, layer: u8, field: usize) -> Report
+        ensures { told result ≡ plain.report number layer field }
+    {
+        Report {
+            number,
+            layer,
+            field,
+        }
+    }
+}
+
 impl Fault {
     // The refusal's number.
     pub fn number(&self) -> u8
         ensures { result ≡ (reported self.now.cause).number }
     {
-        match self.cause {
-            DomainFault::Line(LineFault::Letter) => 3,
-            DomainFault::Line(LineFault::Count(_)) => 2,
-            DomainFault::Line(LineFault::Field(f)) => match f.cause {
-                FieldCause::Form => 1,
-                FieldCause::Range => 6,
-            },
-            DomainFault::Declared(_) => 4,
-            DomainFault::Undeclared(_) => 5,
-            DomainFault::Full => 7,
-            DomainFault::Clash => 8,
-            DomainFault::Mark => 9,
-            DomainFault::Ladder => 10,
-        }
+        self.report().number
     }
 
     // The layer that refused: 1 the field, 2 the line, 3 the domain.
     pub fn layer(&self) -> u8
         ensures { result ≡ (reported self.now.cause).layer }
     {
-        match self.cause {
-            DomainFault::Line(LineFault::Field(_)) => 1,
-            DomainFault::Line(_) => 2,
-            _ => 3,
-        }
+        self.report().layer
     }
 
     // The field, from 1; for a wrong number of fields, how many there are.
     pub fn field(&self) -> usize
         ensures { result ≡ (reported self.now.cause).field }
     {
+        self.report().field
+    }
+
+    fn report(&self) -> Report
+        ensures { told result ≡ reported self.now.cause }
+    {
         match self.cause {
-            DomainFault::Line(LineFault::Letter) | DomainFault::Full => 1,
-            DomainFault::Line(LineFault::Count(n)) => n,
-            DomainFault::Line(LineFault::Field(f)) => usize::from(f.field),
-            DomainFault::Declared(k) | DomainFault::Undeclared(k) => usize::from(k),
-            DomainFault::Clash | DomainFault::Mark | DomainFault::Ladder => 5,
+            DomainFault::Line(LineFault::Letter) => Report::new(3, 2, 1),
+            DomainFault::Line(LineFault::Count(n)) => Report::new(2, 2, n),
+            DomainFault::Line(LineFault::Field(f)) => match f.cause {
+                FieldCause::Form => Report::new(1, 1, usize::from(f.field)),
+                FieldCause::Range => Report::new(6, 1, usize::from(f.field)),
+            },
+            DomainFault::Declared(k) => Report::new(4, 3, usize::from(k)),
+            DomainFault::Undeclared(k) => Report::new(5, 3, usize::from(k)),
+            DomainFault::Full => Report::new(7, 3, 1),
+            DomainFault::Clash => Report::new(8, 3, 5),
+            DomainFault::Mark => Report::new(9, 3, 5),
+            DomainFault::Ladder => Report::new(10, 3, 5),
         }
     }
 }
