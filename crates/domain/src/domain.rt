@@ -8,7 +8,7 @@ use fields::{Line, Name};
 use lines::LawfulTables;
 use reading::{DomainFault, Kind};
 use std::alloc::{AllocError, Global};
-use tables::{Action, Method, Task, find, find_symbol};
+use tables::{Action, Method, Task};
 use theory::Subtask;
 
 // A domain: tables whose type carries the mark rule, the ladder rule and the ranges of every reference into them.
@@ -67,13 +67,13 @@ impl Domain {
     pub fn find_fact(&self, name: &[u8]) -> Option<usize>
         ensures { result ≡ fact_of (domain_tables self.now) name.now }
     {
-        find(self.facts(), name)
+        self.lawful.tables.fact(name)
     }
 
     // The action or the task of this name.
     pub fn find_symbol(&self, name: &[u8]) -> Option<Subtask>
         ensures { result ≡ symbol_of (domain_tables self.now) name.now }
     {
-        find_symbol(self.actions(), self.tasks(), name)
+        self.lawful.tables.symbol(name)
     }
 }

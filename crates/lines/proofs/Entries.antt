@@ -17,7 +17,7 @@ use Rattle.tables.specs.Held.{few_items, task_ranks}
 use Rattle.tables.specs.declared.entries.Method.{Method as Held}
 use Rattle.lines.specs.declared.filled.Tables.{Tables}
 use Rattle.lines.specs.Closes.{meant, closes}
-use Rattle.lines.specs.Entries.{action_in, task_in, method_in, rules_for, position_in, placed, Placed, between_in}
+use Rattle.lines.specs.Entries.{action_in, task_in, method_in, rules_for, position_in, between_in}
 use Rattle.lines.specs.Took.{Took, new_symbol, old_fact, old_task, fact_set, subtask_list, arity}
 use Rattle.lines.proofs.Closing.{closed_roomy}
 
@@ -89,24 +89,6 @@ module _ (t : Tables) (l : Line) where
 
     pub position_goes : {j f : ℕ} → Ok (j, f) ≡ position_in t l → position_line constraint T (line_fields l) ≡ constrain T (constraint j f)
     position_goes p = position-parts ∙ step position_rest (sym p) refl
-
-    module _ (Makes : ℕ → ℕ → Constraint → Type 0) where
-      pub placed_stop : {e : DomainFault} → Placed t l Makes (Err e) → position_line constraint T (line_fields l) ≡ Err e
-      placed_stop {e} h = position-stop (go (position_in t l) h)
-        where
-          go : (p : Check (ℕ × ℕ)) → placed p Makes (Err e) → Err e ≡ p
-          go p h = grind arith
-
-      pub placed_goes : ((j f : ℕ) (c : Constraint) → Makes j f c → c ≡ constraint j f) → (c : Constraint) → Placed t l Makes (Ok c)
-          → position_line constraint T (line_fields l) ≡ constrain T c
-      placed_goes makes c h = go (position_in t l) refl h
-        where
-          go : (p : Check (ℕ × ℕ)) → position_in t l ≡ p → placed p Makes (Ok c) → position_line constraint T (line_fields l) ≡ constrain T c
-          go (Err g) e h = absurd cc
-          go (Ok (j, f)) e h =
-              let x = h.2 in
-              let same : c ≡ h.0 = cc in
-              position_goes (sym e) ∙ ap (constrain T) (sym (makes j f h.0 h.1) ∙ sym same)
 
   between_parts : between_line T (line_fields l) ≡ (between_in t l >>= constrain T)
   between_parts = three (constrain T) Between (field (number_in (line_fields l) 2 1 (arity t))) (old_fact t l 3) (λ i. field (number_in (line_fields l) 4 (suc i) (arity t))) (λ i. field (number_in (line_fields l) 4 (i + 1) (arity t)))

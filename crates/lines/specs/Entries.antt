@@ -1,5 +1,5 @@
 -- what the fields of a line read as, before the checks that concern its table
-use Rattle.std.specs.Prelude.{◌≡◌, ℕ, ◌+◌, cond, List, [], length, Ok, Err, Result, vec_items, nat_lt}
+use Rattle.std.specs.Prelude.{ℕ, ◌+◌, cond, List, [], length, Ok, vec_items, nat_lt}
 use Rattle.fields.specs.Held.{line_fields}
 use Rattle.fields.specs.Read.{number_in, mark_in}
 use Rattle.fields.specs.declared.line.Line.{Line}
@@ -10,17 +10,11 @@ use Rattle.theory.specs.declared.Constraint.{Constraint}
 use Rattle.theory.specs.declared.Constraint.TheVariants.{Between}
 use Rattle.reading.specs.Lines.{Check, ◌>>=◌, ◌>>◌, must, field, with_last}
 use Rattle.reading.specs.Tables.{ActionEntry, TaskEntry}
-use Rattle.reading.specs.declared.faults.DomainFault.{DomainFault}
 use Rattle.reading.specs.declared.faults.DomainFault.TheVariants.{Mark, Ladder}
 use Rattle.tables.specs.Held.{few_items, task_ranks}
 use Rattle.tables.specs.declared.entries.Method.{Method}
 use Rattle.lines.specs.declared.filled.Tables.{Tables}
 use Rattle.lines.specs.Took.{new_symbol, old_fact, old_task, fact_set, subtask_list, arity}
-
--- an answer that is made of what was read, or the fault of that
-abbrev pub placed : Check (ℕ × ℕ) → (ℕ → ℕ → Constraint → Type 0) → Result Constraint DomainFault → Type 0
-placed (Err e) Makes result = result ≡ Err e
-placed (Ok (j, f)) Makes result = (c : Constraint) × Makes j f c × (result ≡ Ok c)
 
 module _ (t : Tables) (l : Line) where
   abbrev pub action_in : Check ActionEntry
@@ -51,10 +45,6 @@ module _ (t : Tables) (l : Line) where
     j ← field (number_in (line_fields l) 2 0 (arity t))
     f ← old_fact t l 3
     Ok (j, f)
-
-  -- the constraint that is made of a position and a fact; their fault where one of them has it
-  abbrev pub Placed : (ℕ → ℕ → Constraint → Type 0) → Result Constraint DomainFault → Type 0
-  Placed Makes result = placed position_in Makes result
 
   abbrev pub between_in : Check Constraint
   between_in = do

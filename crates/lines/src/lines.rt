@@ -5,9 +5,9 @@ ghost use Rattle.reading.specs.Lines as plain;
 ghost use Rattle.tables.specs.Held.{few_items, task_entry, method_entry};
 ghost use Rattle.lines.specs.Closes.{meant, closes, roomy};
 ghost use Rattle.lines.specs.Took.{Took, new_fact, new_symbol, old_fact, old_task, subtask_list, arity};
-ghost use Rattle.lines.specs.Entries.{task_in, method_in, rules_for, Placed, between_in, with_subtask};
+ghost use Rattle.lines.specs.Entries.{task_in, method_in, rules_for, position_in, between_in, with_subtask};
 
-use crate::filled::Tables;
+use crate::filled::{MOST_ACTIONS, MOST_FACTS, MOST_METHODS, MOST_TASKS, Tables};
 use crate::names::{new_name, old_name};
 use fields::{Line, Name};
 use reading::DomainFault;
@@ -20,10 +20,10 @@ impl Tables {
     pub(crate) fn new(heap: Global) -> Result<Tables, AllocError>
         ensures { IfOk result (λ t. (meant t ≡ empty) × (closes t ≡ true)) }
     {
-        let facts = Vec::with_capacity(heap, 64)?;
-        let actions = Vec::with_capacity(heap, 64)?;
-        let tasks = Vec::with_capacity(heap, 48)?;
-        let methods = Vec::with_capacity(heap, 128)?;
+        let facts = Vec::with_capacity(heap, MOST_FACTS)?;
+        let actions = Vec::with_capacity(heap, MOST_ACTIONS)?;
+        let tasks = Vec::with_capacity(heap, MOST_TASKS)?;
+        let methods = Vec::with_capacity(heap, MOST_METHODS)?;
         Ok(Tables {
             facts,
             actions,
@@ -33,7 +33,7 @@ impl Tables {
     }
 
     // The fact of a name.
-    pub(crate) fn fact(&self, name: &[u8]) -> Option<usize>
+    pub fn fact(&self, name: &[u8]) -> Option<usize>
         ensures { result ≡ fact_of (meant self.now) name.now }
     {
         find(self.facts.as_slice(), name)
@@ -47,7 +47,7 @@ impl Tables {
     }
 
     // The action or the task of a name.
-    pub(crate) fn symbol(&self, name: &[u8]) -> Option<Subtask>
+    pub fn symbol(&self, name: &[u8]) -> Option<Subtask>
         ensures { result ≡ symbol_of (meant self.now) name.now }
     {
         find_symbol(self.actions.as_slice(), self.tasks.as_slice(), name)
@@ -88,9 +88,7 @@ impl Tables {
     {
         let mut subtasks = Few::Zero;
         for name in line.short_list(k, 4)? {
-            let Some(s) = self.symbol(name) else {
-                return Err(DomainFault::Undeclared(k));
-            };
+            let s = self.symbol(name).ok_or(DomainFault::Undeclared(k))?;
             subtasks = with_subtask(subtasks, s);
         }
         Ok(subtasks)
@@ -142,7 +140,7 @@ impl Tables {
         Ok(())
     }
 
-    // How many subtasks the last method has. By `as`: there are at most four, and TryFrom would ask for a fault that can't be.
+    // How many subtasks the last method has. By `as`: there are at most four, and `try_from(..).unwrap()` is no plainer.
     fn arity(&self) -> u32
         ensures value { result ≡ arity self.now }
         ensures few { result ≤ 4 }
@@ -153,18 +151,13 @@ impl Tables {
         }
     }
 
-    // The constraint that a line makes of a position and a fact.
-    pub(crate) fn placed<F: FnOnce(usize, usize) -> Constraint>(
-        &self,
-        line: &Line,
-        make: F,
-    ) -> Result<Constraint, DomainFault>
-        requires { F.IsAlwaysCallable make }
-        ensures { Placed self.now line.now (F.post make) result }
+    // The position and the fact of a constraint at one position.
+    pub(crate) fn position(&self, line: &Line) -> Result<(usize, usize), DomainFault>
+        ensures { result ≡ position_in self.now line.now }
     {
         let position = line.number(2, 0, self.arity())?;
         let fact = self.old_fact(line, 3)?;
-        Ok(make(counted(position), fact))
+        Ok((counted(position), fact))
     }
 
     // The constraint between two positions.
@@ -198,7 +191,7 @@ impl Tables {
     }
 }
 
-// A position as a count of subtasks. By `as`: usize has no From<u32>, and TryFrom would ask for a fault that can't be.
+// A position as a count of subtasks. By `as`: usize has no From<u32>, and `try_from(..).unwrap()` is no plainer.
 fn counted(position: u32) -> usize
     ensures { result ≡ position }
 {

@@ -8,7 +8,7 @@ ghost use Rattle.lines.specs.Closes.{meant};
 ghost use Rattle.lines.specs.Entries.{action_in};
 ghost use Rattle.lines.specs.Took.{Declares, fact_set};
 
-use crate::filled::Tables;
+use crate::filled::{MOST_ACTIONS, MOST_FACTS, MOST_METHODS, MOST_TASKS, Tables};
 use crate::lawful::LawfulTables;
 use crate::names::room;
 use fields::Line;
@@ -47,20 +47,19 @@ impl LawfulTables {
         ensures { Declares result self.old.tables self.new.tables kind.Fact line.now }
     {
         let name = self.tables.new_fact(line, 2)?;
-        room(self.tables.facts.as_slice(), 64)?;
+        room(self.tables.facts.as_slice(), MOST_FACTS)?;
         self.tables.facts.push_reserved(name);
         Ok(())
     }
 
     // The set of the facts that a field lists.
+    // A loop of its own beside that for subtasks: one for both would take each step's own condition as an argument.
     fn fact_set(&self, line: &Line, k: u8) -> Result<u64, DomainFault>
         ensures { result ≡ fact_set self.now.tables line.now k }
     {
         let mut set = 0;
         for name in line.list(k)? {
-            let Some(f) = self.tables.fact(name) else {
-                return Err(DomainFault::Undeclared(k));
-            };
+            let f = self.tables.fact(name).ok_or(DomainFault::Undeclared(k))?;
             set = with_fact(set, f);
         }
         Ok(set)
@@ -86,7 +85,7 @@ impl LawfulTables {
         ensures { Declares result self.old.tables self.new.tables kind.Action line.now }
     {
         let action = self.action(line)?;
-        room(self.tables.actions.as_slice(), 64)?;
+        room(self.tables.actions.as_slice(), MOST_ACTIONS)?;
         if action.adds & action.deletes != 0 {
             return Err(DomainFault::Clash);
         }
@@ -98,7 +97,7 @@ impl LawfulTables {
         ensures { Declares result self.old.tables self.new.tables kind.Task line.now }
     {
         let task = self.tables.task(line)?;
-        room(self.tables.tasks.as_slice(), 48)?;
+        room(self.tables.tasks.as_slice(), MOST_TASKS)?;
         self.tables.tasks.push_reserved(task);
         Ok(())
     }
@@ -107,26 +106,25 @@ impl LawfulTables {
         ensures { Declares result self.old.tables self.new.tables kind.Method line.now }
     {
         let method = self.tables.method(line)?;
-        room(self.tables.methods.as_slice(), 128)?;
+        room(self.tables.methods.as_slice(), MOST_METHODS)?;
         self.tables.ruled(&method)?;
         self.tables.methods.push_reserved(method);
         Ok(())
     }
 
+    // Two functions of two lines each: one that takes what makes the constraint would need a contract about that closure.
     fn before_line(&mut self, line: &Line) -> Result<(), DomainFault>
         ensures { Declares result self.old.tables self.new.tables kind.Before line.now }
     {
-        let before = |position, fact| Constraint::Before { position, fact };
-        let constraint = self.tables.placed(line, before)?;
-        self.tables.constrain(constraint)
+        let (position, fact) = self.tables.position(line)?;
+        self.tables.constrain(Constraint::Before { position, fact })
     }
 
     fn after_line(&mut self, line: &Line) -> Result<(), DomainFault>
         ensures { Declares result self.old.tables self.new.tables kind.After line.now }
     {
-        let after = |position, fact| Constraint::After { position, fact };
-        let constraint = self.tables.placed(line, after)?;
-        self.tables.constrain(constraint)
+        let (position, fact) = self.tables.position(line)?;
+        self.tables.constrain(Constraint::After { position, fact })
     }
 
     fn between_line(&mut self, line: &Line) -> Result<(), DomainFault>
