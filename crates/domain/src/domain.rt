@@ -12,7 +12,7 @@ use tables::{Action, Method, Task};
 use theory::Subtask;
 
 // A domain: tables whose type carries the mark rule, the ladder rule and the ranges of every reference into them.
-// The reader hands it out once it is closed.
+// The reader hands it out once it is closed. No Model: whoever holds a domain has to see the law of its tables.
 #[derive(Drop)]
 pub struct Domain {
     lawful: LawfulTables,

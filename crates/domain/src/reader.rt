@@ -9,7 +9,7 @@ use fields::{Line, LineFault};
 use reading::{DomainFault, Fault, Kind, Section};
 use std::alloc::{AllocError, Global};
 
-// A reader of a domain, line by line.
+// A reader of a domain, line by line. No Model: it would hide the fields that the contracts of the private functions name.
 #[derive(Drop)]
 pub struct Reader {
     // how many lines were read, up to the first fault
@@ -44,6 +44,7 @@ impl Reader {
             return Err(first);
         }
         self.lines = self.lines.saturating_add(1);
+        // no map_err: the proof learns nothing of a reader that a closure changes
         match self.take(bytes) {
             Ok(()) => Ok(()),
             Err(cause) => Err(self.refuse(cause)),
@@ -54,10 +55,7 @@ impl Reader {
     pub fn lines(&self) -> usize
         ensures { result ≡ lines_read (stands self.now) }
     {
-        match self.refused {
-            Some(first) => first.line,
-            None => self.lines,
-        }
+        self.refused.map_or(self.lines, |first| first.line)
     }
 
     // The domain, once it is closed.
@@ -126,7 +124,7 @@ fn kind_of(field: &[u8]) -> Result<Kind, LineFault>
     }
 }
 
-// How many fields a line has, the letter too.
+// How many fields a line has, the letter too. A match, since the format gives each of the eight kinds its number.
 fn field_count(kind: Kind) -> usize
     ensures { result ≡ plain.field_count kind }
 {

@@ -10,7 +10,8 @@ use crate::name::text::is_name;
 use crate::pieces::Pieces;
 
 // A line cut at its tabs: its first fields, how many it has, and how many bytes.
-// An array with the count beside it and no Vec, since no line may need memory.
+// An array with the count beside it, since no line may need memory; an ArrayVec is not Copy, which a public line is.
+// No Model: a type that is copied and has a lifetime can't have one.
 #[derive(Clone, Copy)]
 pub struct Line<'a> {
     at: [&'a [u8]; 5],
@@ -50,7 +51,8 @@ impl<'a> Line<'a> {
     }
 
     // Field k, from 1; empty where there is none.
-    // The questions on a field take k: a type for one field would only turn `line.name(2)` into `line.field(2).name()`.
+    // The questions on a field take k, here and in the callers: they are public, and a type for one field would only turn
+    // `line.name(2)` into `line.field(2).name()`.
     pub fn field(&self, k: u8) -> &'a [u8]
         ensures { result.now ≡ at (line_fields self.now) k }
     {

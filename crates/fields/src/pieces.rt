@@ -4,6 +4,7 @@ ghost use Rattle.fields.specs.Text.{parted};
 ghost use Rattle.fields.specs.Held.{pieces_left};
 
 // What is left of a text that is cut at each separator, piece by piece from the left: nothing once the last was given.
+// No Model: a type that is copied and has a lifetime can't have one.
 #[derive(Clone, Copy)]
 pub struct Pieces<'a> {
     rest: Option<&'a [u8]>,

@@ -5,7 +5,7 @@ use crate::few::Few;
 use fields::Name;
 use theory::{Constraint, Subtask};
 
-// The needed, added and deleted facts are sets: bit f is fact f.
+// The needed, added and deleted facts are sets: bit f is fact f. Masks and no collections, as states are.
 #[derive(Clone, Copy)]
 pub struct Action {
     pub name: Name,

@@ -3,7 +3,7 @@ ghost use Rattle.std.specs.Option.{option_map};
 ghost use Rattle.tables.specs.Held.{few_items, grown};
 
 // A list of at most four, by how many there are.
-// In place and no Vec, since no line may need memory; methods are copied, which the kit's ArrayVec is not.
+// In place and no Vec, since no line may need memory; `Few` and `Method` are public and Copy, which an ArrayVec is not.
 #[derive(Clone, Copy)]
 pub enum Few<T> {
     Zero,

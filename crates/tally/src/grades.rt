@@ -14,7 +14,8 @@ pub type Licence = UpTo<9>;
 #[derive(Clone, Copy)]
 pub struct Grade;
 
-// Like Price's but for top, join, laws and weight: one impl over a trait of both would leave TOP unconstrained.
+// Like Price's but for top, join, laws and weight: one impl over a trait of both would leave TOP
+// unconstrained, and a generic struct for both would lose the two names as values.
 impl Tally for Grade {
     type Value = Option<Licence>;
 

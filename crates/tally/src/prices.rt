@@ -14,7 +14,8 @@ pub type Amount = UpTo<1_000_000_000>;
 #[derive(Clone, Copy)]
 pub struct Price;
 
-// Like Grade's but for top, join, laws and weight: one impl over a trait of both would leave TOP unconstrained.
+// Like Grade's but for top, join, laws and weight: one impl over a trait of both would leave TOP
+// unconstrained, and a generic struct for both would lose the two names as values.
 impl Tally for Price {
     type Value = Option<Amount>;
 

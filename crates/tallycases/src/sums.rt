@@ -21,7 +21,8 @@ pub(crate) fn product<T: Tally>(tally: &T, values: &[T::Value]) -> T::Value
         .fold(tally.one(), |all, x| tally.times(all, *x))
 }
 
-// Four functions of one line each from here: a common form would take the operations and the laws as arguments.
+// Four functions of one line each from here: a common form would take the operations and the laws as arguments. They are
+// no methods of Tables, since each contract stands for any lists.
 
 // The sum of two lists, one after the other, by their sums.
 pub(crate) fn joint_sum<T: Tally>(tally: &T, xs: &[T::Value], ys: &[T::Value]) -> T::Value
