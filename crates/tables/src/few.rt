@@ -4,6 +4,7 @@ ghost use Rattle.tables.specs.Held.{few_items, grown};
 
 // A list of at most four, by how many there are.
 // In place and no Vec, since no line may need memory; `Few` and `Method` are public and Copy, which an ArrayVec is not.
+// No Model: an enum can't have one.
 #[derive(Clone, Copy)]
 pub enum Few<T> {
     Zero,
