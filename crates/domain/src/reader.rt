@@ -81,7 +81,7 @@ impl Reader {
         Ok(())
     }
 
-    // The group of a line that may stand here.
+    // The group of a line that may stand here. Section and kind are matched together, since what may come next depends on both.
     fn section_after(&self, kind: Kind) -> Result<Section, LineFault>
         ensures { result ≡ section_after self.now.section kind }
     {

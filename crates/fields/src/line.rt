@@ -134,6 +134,7 @@ fn all_names(pieces: Pieces<'_>) -> bool
 }
 
 // The value of a text that is a number: 1 to 6 decimal digits, with no zero before another digit.
+// Digit by digit: beside `parse`, which takes other texts too, the tests would stay, and from_utf8 come before it.
 fn number(text: &[u8]) -> Option<u32>
     ensures { result ≡ (if number_form text.now then Some (value 0 text.now) else None) }
 {

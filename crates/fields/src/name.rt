@@ -4,8 +4,8 @@ ghost use Rattle.fields.specs.Form.{name_at};
 pub(crate) mod text;
 
 // A name: 1 to 16 bytes, small letters and digits, the first a letter. They stand at the front of the array.
-// An array with the length beside it, since no line may need memory; an ArrayString would hide from contracts and edits
-// the array that `as_bytes` cuts. No Model: a name is copied, and the bytes that it means don't give the array back.
+// An array with the length beside it, since no line may need memory. With an ArrayString the edit of `as_bytes` that gives
+// out the unused room too could not be kept. No Model: a name is copied, and its bytes don't give the array back.
 #[derive(Clone, Copy)]
 pub struct Name {
     bytes: [u8; 16],

@@ -9,6 +9,7 @@ use fields::{Line, Name};
 use reading::DomainFault;
 
 // A name that stands for nothing yet, by the lookup that is handed in.
+// line and k are two parameters, here and in the callers, as they are of the questions of Line.
 pub(crate) fn new_name<T: Drop, F: FnOnce(&[u8]) -> Option<T>>(
     line: &Line,
     k: u8,

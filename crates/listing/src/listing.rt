@@ -7,7 +7,7 @@ use crate::rows::{Entry, Lister};
 use domain::Domain;
 use std::alloc::{AllocError, Global};
 
-// The listing of a domain: one row for each entry.
+// The listing of a domain: one row for each entry. It is public and takes what callers have; the Lister is made here.
 pub fn list_domain(heap: Global, domain: &Domain) -> Result<String, AllocError>
     ensures { IfOk result (λ s. string_bytes s ≡ listing (domain_tables domain.now)) }
 {

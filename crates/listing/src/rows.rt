@@ -13,6 +13,7 @@ use tables::{Action, Method, Task};
 use theory::{Constraint, Subtask};
 
 // What lists a domain: the memory for the rows, and the domain, whose names they show.
+// No Model: it is copied and has a lifetime.
 #[derive(Clone, Copy)]
 pub(crate) struct Lister<'a> {
     pub(crate) heap: Global,
@@ -20,7 +21,7 @@ pub(crate) struct Lister<'a> {
 }
 
 // An entry of one of a domain's tables.
-// Its rows are Strings and no displays: a list of names is joined in memory, so a display would be no plainer.
+// Its rows are Strings and no displays: two of the five join names in memory, and so all are made in the same way.
 pub(crate) trait Entry {
     // The rows of the entry with this number.
     ghost text: { Tables → ℕ → Self → Bytes };
@@ -61,6 +62,7 @@ impl Entry for Task {
     }
 }
 
+// One `if`: a type with a Display for two letters would be no plainer.
 fn mark(vanishes: bool) -> &'static str
     ensures { result.now ≡ mark_text vanishes }
 {
@@ -98,6 +100,7 @@ impl Lister<'_> {
     fn constraint_row(self, method: usize, constraint: Constraint) -> Result<String, AllocError>
         ensures { Makes result (constraint_row (listed self.entry) method constraint) }
     {
+        // three arms: the letter is part of a format, and a format is a literal
         match constraint {
             Constraint::Before { position, fact } => {
                 let fact = self.fact_name(fact);

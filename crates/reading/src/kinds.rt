@@ -18,7 +18,7 @@ pub enum Kind {
     Closing,
 }
 
-// The kind of line that a letter stands for.
+// The kind of line that a letter stands for: a match on the letters, each of which is one kind for good.
 impl TryFrom<char> for Kind {
     type Error = LineFault;
 

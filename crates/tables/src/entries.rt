@@ -6,6 +6,7 @@ use fields::Name;
 use theory::{Constraint, Subtask};
 
 // The needed, added and deleted facts are sets: bit f is fact f. Masks and no collections, as states are.
+// No Model of an entry, here and below: its fields are public, and callers read them.
 #[derive(Clone, Copy)]
 pub struct Action {
     pub name: Name,

@@ -8,7 +8,7 @@ ghost use Rattle.tables.specs.Ranks.{ranked};
 use crate::entries::Task;
 use theory::Subtask;
 
-// The tasks that subtasks are numbers of, as the rules look at them.
+// The tasks that subtasks are numbers of, as the rules look at them. No Model: it is copied and has a lifetime.
 #[derive(Clone, Copy)]
 struct Ranks<'a> {
     tasks: &'a [Task],
@@ -59,6 +59,7 @@ impl Ranks<'_> {
 }
 
 // The mark rule: a method whose subtasks may all vanish belongs to a task that may vanish.
+// This and the next are public and take what callers have; to hand out Ranks would ask more of them.
 pub fn keeps_mark(tasks: &[Task], owner: usize, subtasks: &[Subtask]) -> bool
     ensures { result ≡ rules.keeps_mark (task_ranks tasks.now) owner subtasks.now }
 {

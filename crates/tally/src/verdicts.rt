@@ -1,7 +1,7 @@
 mod joins;
 pub(crate) mod tally;
 
-// Is there a valid tree? An enum, and not a bool, so that a verdict can't be taken for another flag.
+// Is there a valid tree? A bool would be no plainer: a bare `true` doesn't say whose yes it is.
 #[derive(Clone, Copy)]
 pub enum Answer {
     No,

@@ -43,6 +43,7 @@ impl LawfulTables {
         }
     }
 
+    // Each kind of entry has its own line: fields, room, then the checks of its own, and only then the entry at the end.
     fn fact_line(&mut self, line: &Line) -> Result<(), DomainFault>
         ensures { Declares result self.old.tables self.new.tables kind.Fact line.now }
     {
