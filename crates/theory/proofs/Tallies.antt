@@ -2,9 +2,10 @@
 use Rattle.std.proofs.Common.{◌≡◌, ℕ, ◌*◌, ◌≤◌, min, List, [], ◌∷◌, map, Some, None, refl, mul-le-mul_right, mul_assoc, mul_comm, add-mul, mul-add, le-mul_of_pos_right, arith}
 use Rattle.std.proofs.Math.Bool.{or_assoc, and_assoc, false-or, or-false, true-and, and-true, false-and, and-false, and-or_distrib_left, and-or_distrib_right}
 use mathlib.Core.HLevel.{is_prop→PathP}
+use mathlib.Core.List.{map-map}
 use native.Mathlib.Bridge.{le_prop}
 use Rattle.std.proofs.lemmas.Bool.Decides.{nat_tests}
-use Rattle.theory.specs.Algebra.{Algebra, Laws, joined}
+use Rattle.theory.specs.Algebra.{Algebra, Laws, joined, sum, product}
 use Rattle.theory.specs.Tallies.{UpTo, stop, added, smaller, larger, lower, both, verdicts, counts, prices, grades, pair_of, Parts}
 
 -- two numbers up to n are the same where their values are
@@ -119,3 +120,13 @@ joined_parts p d q e (x ∷ xs) = cc (joined_parts p d q e xs)
 
 pub parts : {V W : Type 0} (A : Algebra V) (B : Algebra W) → Parts A B
 parts A B = record { sum_parts = joined_parts A.plus A.zero B.plus B.zero; product_parts = joined_parts A.times A.one B.times B.one }
+
+-- pairs of what f and g give of the elements
+module _ {V W : Type 0} (A : Algebra V) (B : Algebra W) where
+  pub sum_pairs : {X : Type 0} (f : X → V) (g : X → W) (xs : List X)
+      → sum (pair_of A B) (map (λ x. (f x, g x)) xs) ≡ (sum A (map f xs), sum B (map g xs))
+  sum_pairs f g xs = simp map-map at ((parts A B).sum_parts (map (λ x. (f x, g x)) xs))
+
+  pub product_pairs : {X : Type 0} (f : X → V) (g : X → W) (xs : List X)
+      → product (pair_of A B) (map (λ x. (f x, g x)) xs) ≡ (product A (map f xs), product B (map g xs))
+  product_pairs f g xs = simp map-map at ((parts A B).product_parts (map (λ x. (f x, g x)) xs))
