@@ -1,8 +1,7 @@
 -- names as they are looked through, and as the tables mean them
-use Rattle.std.proofs.Common.{◌≡◌, ℕ, List, map, Option, sym, ap, ap₂}
+use Rattle.std.proofs.Common.{◌≡◌, List, map, sym, ap₂}
 use mathlib.Core.List.{map-map}
 use Rattle.fields.specs.Text.{Bytes}
-use Rattle.theory.specs.declared.Subtask.{Subtask}
 use Rattle.reading.specs.Tables.{ActionEntry, TaskEntry, index_of, or_task}
 use Rattle.tables.specs.Held.{action_name, action_entry, task_name, task_entry, symbol_in}
 use Rattle.tables.specs.declared.entries.Action.{Action}
