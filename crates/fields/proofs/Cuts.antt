@@ -1,7 +1,7 @@
 -- a text cut at each separator
-use Rattle.std.proofs.Common.{◌≡◌, ℕ, suc, ◌+◌, ◌-◌, ◌<◌, ◌≤◌, Bool, true, false, cond, eqb, List, [], ◌∷◌, ◌++◌, length, take, drop, sym, refl, ap, ◌∙◌, le_of_suc-le-suc, not-suc-le-zero, not, ltb, Some, None, Option, subst, ltb-true, ltb-false, add-one, arith, eq-eqb, ne_eqb, eqb-true}
+use Rattle.std.proofs.Common.{◌≡◌, ℕ, suc, ◌+◌, ◌-◌, ◌<◌, ◌≤◌, Bool, true, false, cond, eqb, List, [], ◌∷◌, ◌++◌, length, get_or, take, drop, sym, refl, ap, ◌∙◌, le_of_suc-le-suc, not-suc-le-zero, not, ltb, Some, None, Option, subst, ltb-true, ltb-false, add-one, arith, eq-eqb, ne_eqb, eqb-true}
 use borrow.Author.Tests.{eqb-false}
-use Rattle.std.proofs.lemmas.List.{take_rest}
+use Rattle.std.proofs.lemmas.List.{take_rest, at_drop_more}
 use Rattle.theory.specs.Lists.{All}
 use Rattle.fields.specs.Text.{Bytes, cons_first, parted, joined, Free, Cut}
 use Rattle.std.specs.Option.{MatchOption}
@@ -68,6 +68,18 @@ module _ (s : ℕ) where
   first_len : (b : ℕ) (fs : List Bytes) → 0 < length fs → length (cons_first b fs) ≡ length fs
   first_len b [] h = absurd (not-suc-le-zero h)
   first_len b (f ∷ fs) h = refl
+
+  -- the turn of a loop that counts the separators
+  pub count_yes : (xs : Bytes) (i : ℕ) → i < length xs → get_or xs i 0 ≡ s → length (parted s (drop i xs)) ≡ suc (length (parted s (drop (i + 1) xs)))
+  count_yes xs i h e =
+      at_drop_more (λ (l : Bytes). length (parted s l)) xs i 0 h
+      ∙ ap (λ (t : Bool). length (cond t ([] ∷ parted s (drop (i + 1) xs)) (cons_first (get_or xs i 0) (parted s (drop (i + 1) xs))))) (eq-eqb (get_or xs i 0) s e)
+
+  pub count_no : (xs : Bytes) (i : ℕ) → i < length xs → (get_or xs i 0 ≡ s → ⊥) → length (parted s (drop i xs)) ≡ length (parted s (drop (i + 1) xs))
+  count_no xs i h e =
+      at_drop_more (λ (l : Bytes). length (parted s l)) xs i 0 h
+      ∙ ap (λ (t : Bool). length (cond t ([] ∷ parted s (drop (i + 1) xs)) (cons_first (get_or xs i 0) (parted s (drop (i + 1) xs))))) (ne_eqb (get_or xs i 0) s e)
+      ∙ first_len (get_or xs i 0) (parted s (drop (i + 1) xs)) (parted_pos (drop (i + 1) xs))
 
   pub parted_len : (l : Bytes) → length (parted s l) ≤ suc (length l)
   parted_len [] = omega arith

@@ -1,5 +1,5 @@
 -- an array of five that is filled from the front with the first elements of a list
-use Rattle.std.proofs.Common.{◌≡◌, ℕ, ◌+◌, ◌<◌, ◌≤◌, min, List, [], ◌∷◌, ◌++◌, length, get_or, take, drop, set, sym, refl, ap, ◌∙◌, arith, subst}
+use Rattle.std.proofs.Common.{◌≡◌, ℕ, ◌+◌, ◌<◌, ◌≤◌, ◌⊎◌, inl, inr, min, List, [], ◌∷◌, ◌++◌, length, get_or, take, drop, set, sym, refl, ap, ◌∙◌, arith, subst}
 use Rattle.std.proofs.lemmas.List.{drop_more, take_more, take_more_set, take_min, length-set}
 
 -- n elements were seen, and rest is still to come
@@ -49,3 +49,13 @@ module _ {A : Type 0} (fs xs : List A) where
       let m : min n 5 ≡ min n (length xs) = omega (arith, f.size) in
       let k : min n 5 ≡ min 5 (length fs) = omega arith in
       (e, sym (take_min n xs) ∙ ap (λ (i : ℕ). take i xs) (sym m) ∙ f.front ∙ ap (λ (i : ℕ). take i fs) k ∙ take_min 5 fs)
+
+  -- where the array is full or nothing is still to come, it has the first five elements
+  pub filled_all : (rest : List A) (n : ℕ) → Filled fs xs rest n → (n ≡ 5) ⊎ (rest ≡ []) → take (n + length rest) xs ≡ take 5 fs
+  filled_all rest n f (inl e) =
+      let whole : min (n + length rest) (length xs) ≡ 5 = omega (arith, f.size) in
+      let five : min n 5 ≡ 5 = omega arith in
+      sym (take_min (n + length rest) xs) ∙ ap (λ (i : ℕ). take i xs) whole ∙ rw five at f.front
+  filled_all rest n f (inr e) =
+      let none : n + length rest ≡ n = omega (arith, ap length e) in
+      ap (λ (i : ℕ). take i xs) none ∙ (filled_end n (filled_as refl e refl f)).1

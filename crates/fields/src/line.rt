@@ -25,17 +25,20 @@ impl<'a> Line<'a> {
         ensures count { result.count ≡ length (fields bytes.now) }
         ensures len { result.len ≡ length bytes.now }
     {
+        let mut pieces = Pieces::of(bytes, b'\t');
         let mut at: [&'a [u8]; 5] = [&[]; 5];
-        let mut count = 0;
-        for (i, piece) in Pieces::of(bytes, b'\t').enumerate() {
-            if i < 5 {
-                at[i] = piece;
-            }
-            count = i + 1;
+        let mut first = 0;
+        for i in 0..5 {
+            let Some(piece) = pieces.next() else {
+                break;
+            };
+            at[i] = piece;
+            first = i + 1;
         }
         Line {
             at,
-            count,
+            // the others are counted and not cut: a line that is too long is looked at once, without a search for each piece
+            count: first + pieces.left(),
             len: bytes.len(),
         }
     }

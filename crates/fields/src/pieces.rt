@@ -1,4 +1,4 @@
-ghost use Rattle.std.specs.Prelude.{◌≡◌, [], ◌==◌, position};
+ghost use Rattle.std.specs.Prelude.{◌≡◌, [], ◌==◌, length, position};
 ghost use Rattle.std.specs.Iterator.{YieldsFirstRef, item_count};
 ghost use Rattle.fields.specs.Text.{parted};
 ghost use Rattle.fields.specs.Held.{pieces_left};
@@ -29,6 +29,16 @@ impl<'a> Pieces<'a> {
             separator: 0,
         }
     }
+
+    // How many pieces are left.
+    pub(crate) fn left(&self) -> usize
+        ensures { result ≡ length (pieces_left self.now) }
+    {
+        match self.rest {
+            Some(text) => count_pieces(text, self.separator),
+            None => 0,
+        }
+    }
 }
 
 // The next piece, which is then no longer left.
@@ -39,6 +49,7 @@ impl<'a> Iterator for Pieces<'a> {
 
     ghost remaining = { item_count pieces_left };
 
+    #[tactic(auto, using(crate::proofs::Cuts::cut_more, crate::proofs::Cuts::cut_last))]
     fn next(&mut self) -> Option<&'a [u8]> {
         let text = self.rest?;
         let Some(n) = head_len(text, self.separator) else {
@@ -55,4 +66,17 @@ fn head_len(text: &[u8], separator: u8) -> Option<usize>
     ensures { result ≡ position (λ b. b == separator) text.now }
 {
     text.iter().position(|b| *b == separator)
+}
+
+// One more than there are separators.
+fn count_pieces(text: &[u8], separator: u8) -> usize
+    ensures { result ≡ length (parted separator text.now) }
+{
+    let mut n = 1;
+    for b in text {
+        if *b == separator {
+            n += 1;
+        }
+    }
+    n
 }
