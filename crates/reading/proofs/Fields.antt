@@ -68,12 +68,12 @@ folded_set : (set : ℕ) (xs : List ℕ) → fold with_fact set xs ≡ set_of se
 folded_set set [] = refl
 folded_set set (x ∷ xs) = folded_set (with_fact set x) xs
 
-folded_last : {A : Type 0} (acc xs : List A) → fold with_last acc xs ≡ acc ++ xs
+pub folded_last : {A : Type 0} (acc xs : List A) → fold with_last acc xs ≡ acc ++ xs
 folded_last acc [] = sym (append-nil acc)
 folded_last acc (x ∷ xs) = folded_last (acc ++ x ∷ []) xs ∙ append_assoc acc (x ∷ []) xs
 
 module _ {A B : Type 0} (f : B → A → B) (find : Bytes → Option A) (g : DomainFault) (S : Bytes → A → Type 0) where
-  taking-said : ((n : Bytes) (x : A) → find n ≡ Some x → S n x) → (acc : B) (ns : List Bytes) (y : B) → taking f find g acc ns ≡ Ok y → (xs : List A) × Each S ns xs × (fold f acc xs ≡ y)
+  pub taking-said : ((n : Bytes) (x : A) → find n ≡ Some x → S n x) → (acc : B) (ns : List Bytes) (y : B) → taking f find g acc ns ≡ Ok y → (xs : List A) × Each S ns xs × (fold f acc xs ≡ y)
   taking-said is acc [] y e = ([], tt, ok_eq e)
   taking-said is acc (n ∷ ns) y e =
       let a = bound (found (find n) g) _ y e in

@@ -44,7 +44,7 @@ fact_set-lt t f set h =
     subst (λ s. s < 2 ^ length t.facts) h.is
     (set_lt (length t.facts) 0 h.numbers (pow_pos (length t.facts)) (each_right (Names t.facts) (λ i. i < length t.facts) (λ n i k. k.0) (items f) h.numbers h.named))
 
-subtask_here : (t : Tables) (n : Bytes) (s : Subtask) → IsSubtask t n s → SubtaskIn (length t.actions) (length t.tasks) s
+pub subtask_here : (t : Tables) (n : Bytes) (s : Subtask) → IsSubtask t n s → SubtaskIn (length t.actions) (length t.tasks) s
 subtask_here t n s h = grind (arith, length-map t.actions (λ (a : ActionEntry). a.name), length-map t.tasks (λ (e : TaskEntry). e.name))
 
 -- tables that grew, and whose tasks keep their ranks

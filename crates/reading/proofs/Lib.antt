@@ -4,7 +4,7 @@ pub mod Sounds
 pub mod Keeps
 pub mod Runs
 pub mod Lookups
-mod Fields
+pub mod Fields
 mod Said
 mod Ends
 mod Groups
