@@ -61,7 +61,9 @@ impl<'a> Iterator for Pieces<'a> {
     }
 }
 
-// How many bytes stand before the first separator, where there is one.
+// How many bytes stand before the first separator, where there is one. Never inlined: written out for each of a line's five
+// fields, the loop takes more steps for each byte.
+#[inline(never)]
 fn head_len(text: &[u8], separator: u8) -> Option<usize>
     ensures { result ≡ position (λ b. b == separator) text.now }
 {
